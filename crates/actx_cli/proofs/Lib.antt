@@ -1,0 +1,5 @@
+pub mod Lits
+pub mod Gained
+pub mod Phases
+pub mod Statuses
+pub mod Told

@@ -1,0 +1,110 @@
+-- What a call comes to over a shelf that tells its files.
+use Rattle.std.proofs.Common.{◌≡◌, ◌⊎◌, inl, inr, ℕ, ◌+◌, ◌≤◌, ◌<◌, List, [], ◌∷◌, ◌++◌, length, take, Option, Some, refl, sym, ap, subst, ◌∙◌, arith, length-append, length-take}
+use Rattle.std.proofs.lemmas.List.{take_all}
+use Rattle.std.specs.Io.KnownBytes.{Appends}
+use Rattle.actx_outside.specs.Files.{ShelfState, IsFetched, IsFront, contents_of}
+use Rattle.actx_outside.specs.Streams.{SinkState}
+use Rattle.actx_parse.specs.FirstForm.{IsFirstForm}
+use Rattle.actx_parse.specs.declared.lit.Lit.{Lit}
+use Rattle.actx_parse.proofs.Laws.{reads_one_way}
+use Rattle.actx_cli.specs.declared.answer.Answer.{Answer}
+use Rattle.actx_cli.specs.declared.answer.Answer.TheVariants.{Finished, Usage, CannotRead, TooLong, NotBuilt, WriteFault, Memory}
+use Rattle.actx_cli.specs.Words.{Run, Feed, Given, Names, IsCommand, run_word}
+use Rattle.actx_cli.specs.Answers.{status_of}
+use Rattle.actx_cli.specs.Printed.{printed}
+use Rattle.actx_cli.specs.Calls.{Change, Call}
+use Rattle.actx_cli.specs.Runs.{longest, IsHanded, IsNotForm, Comes, Prints, Ran}
+use Rattle.actx_cli.specs.Statuses.{Gained, Faulted, IsTold, NotBuiltAlways, TooLongAlways, Completes}
+
+-- the command line names one file
+spelled : (words : List (List ℕ)) (steps : ℕ) (feed : Feed) (file : List ℕ) → IsCommand words (Run steps feed file) → words ≡ run_word ∷ file ∷ []
+spelled words steps Given file h = h.1
+
+one_file : (words : List (List ℕ)) (a b : List ℕ) → Names words a → Names words b → a ≡ b
+one_file words a b h k = cc (spelled words h.0 h.1 a h.2, spelled words k.0 k.1 b k.2)
+
+-- what was handed over is the front of what the shelf tells
+handed : (words : List (List ℕ)) (shelf : Change ShelfState) (contents bytes : List ℕ) → IsTold words shelf contents → IsHanded words shelf bytes → bytes ≡ take (longest + 1) contents
+handed words shelf contents bytes t h =
+    let same : h.file ≡ t.file = one_file words h.file t.file h.named t.named in
+    let a : IsFetched shelf.old.files t.file longest bytes = subst (λ (f : List ℕ). IsFetched shelf.old.files f longest bytes) same h.fetched in
+    let b : IsFetched (Some t.files) t.file longest bytes = subst (λ (o : Option (List (List ℕ × List ℕ))). IsFetched o t.file longest bytes) t.told a in
+    subst (λ (o : Option (List ℕ)). IsFront o longest bytes) t.held b
+
+-- a short file is handed over whole
+handed_whole : (words : List (List ℕ)) (shelf : Change ShelfState) (contents bytes : List ℕ) → IsTold words shelf contents → IsHanded words shelf bytes → length contents ≤ longest → bytes ≡ contents
+handed_whole words shelf contents bytes t h short =
+    let le : length contents ≤ longest + 1 = omega (arith, short) in
+    handed words shelf contents bytes t h ∙ take_all (longest + 1) contents le
+
+-- of a long one more than the longest
+handed_long : (words : List (List ℕ)) (shelf : Change ShelfState) (contents bytes : List ℕ) → IsTold words shelf contents → IsHanded words shelf bytes → longest < length contents → longest < length bytes
+handed_long words shelf contents bytes t h long = omega (arith, ap length (handed words shelf contents bytes t h), length-take (longest + 1) contents, long)
+
+grows : (xs : List (List ℕ)) (x : List ℕ) → xs ≡ xs ++ x ∷ [] → ⊥
+grows xs x e = omega (arith, ap length e, length-append xs (x ∷ []))
+
+none_failed : (words : List (List ℕ)) (shelf : Change ShelfState) (contents file : List ℕ) → IsTold words shelf contents → shelf.new.failed ≡ shelf.old.failed ++ file ∷ [] → ⊥
+none_failed words shelf contents file t h = grows shelf.old.failed file (sym t.failed ∙ h)
+
+-- a file outside the form is refused as such, or memory ran out
+refuses_form : (answer : Answer) (words : List (List ℕ)) (shelf : Change ShelfState) (text contents : List ℕ) → IsTold words shelf contents → length contents ≤ longest → IsNotForm contents → Comes words shelf answer text → (status_of answer ≡ 65) ⊎ (status_of answer ≡ 75)
+refuses_form NotBuilt words shelf text contents t short n h = inl refl
+refuses_form (Memory steps) words shelf text contents t short n h = inr refl
+refuses_form Usage words shelf text contents t short n h = absurd (h.0 (Run t.named.0 t.named.1 t.file) t.named.2)
+refuses_form CannotRead words shelf text contents t short n h = absurd (none_failed words shelf contents h.0 t h.2)
+refuses_form TooLong words shelf text contents t short n h = absurd (omega (arith, ap length (handed_whole words shelf contents h.0 t h.1 short), h.2, short))
+refuses_form Finished words shelf text contents t short n h = absurd (n h.2.literals (subst (λ (b : List ℕ). IsFirstForm b h.2.literals) (handed_whole words shelf contents h.0 t h.1 short) h.2.form))
+refuses_form WriteFault words shelf text contents t short n h = absurd (n h.2.literals (subst (λ (b : List ℕ). IsFirstForm b h.2.literals) (handed_whole words shelf contents h.0 t h.1 short) h.2.form))
+
+pub not_built_always : (call : Call) → Ran call → NotBuiltAlways call
+not_built_always call r contents t short n = elim r.reports [
+  | inl p ↦ elim (refuses_form r.answer call.words call.shelf r.text contents t short n r.comes) [
+    | inl q ↦ inl (p.0 ∙ q)
+    | inr q ↦ inr (inl (p.0 ∙ q))
+  ]
+  | inr p ↦ inr (inr p.2)
+]
+
+-- a long file is refused as such, or memory ran out
+refuses_length : (answer : Answer) (words : List (List ℕ)) (shelf : Change ShelfState) (text contents : List ℕ) → IsTold words shelf contents → longest < length contents → Comes words shelf answer text → (status_of answer ≡ 66) ⊎ (status_of answer ≡ 75)
+refuses_length TooLong words shelf text contents t long h = inl refl
+refuses_length CannotRead words shelf text contents t long h = inl refl
+refuses_length (Memory steps) words shelf text contents t long h = inr refl
+refuses_length Usage words shelf text contents t long h = absurd (h.0 (Run t.named.0 t.named.1 t.file) t.named.2)
+refuses_length NotBuilt words shelf text contents t long h = absurd (omega (arith, handed_long words shelf contents h.0 t h.1 long, h.2))
+refuses_length Finished words shelf text contents t long h = absurd (omega (arith, handed_long words shelf contents h.0 t h.1 long, h.2.short))
+refuses_length WriteFault words shelf text contents t long h = absurd (omega (arith, handed_long words shelf contents h.0 t h.1 long, h.2.short))
+
+pub too_long_always : (call : Call) → Ran call → TooLongAlways call
+too_long_always call r contents t long = elim r.reports [
+  | inl p ↦ elim (refuses_length r.answer call.words call.shelf r.text contents t long r.comes) [
+    | inl q ↦ inl (p.0 ∙ q)
+    | inr q ↦ inr (inl (p.0 ∙ q))
+  ]
+  | inr p ↦ inr (inr p.2)
+]
+
+-- a file of the form is printed, or memory ran out
+prints_form : (answer : Answer) (call : Call) (text contents : List ℕ) (literals : List (List Lit)) → IsTold call.words call.shelf contents → length contents ≤ longest → IsFirstForm contents literals → (Faulted call.out → ⊥) → Comes call.words call.shelf answer text → Prints answer text call.out
+    → ((status_of answer ≡ 0) × Gained call.out (printed literals)) ⊎ ((status_of answer ≡ 75) × Gained call.out [])
+prints_form Usage call text contents literals t short form fine h p = absurd (h.0 (Run t.named.0 t.named.1 t.file) t.named.2)
+prints_form CannotRead call text contents literals t short form fine h p = absurd (none_failed call.words call.shelf contents h.0 t h.2)
+prints_form TooLong call text contents literals t short form fine h p = absurd (omega (arith, ap length (handed_whole call.words call.shelf contents h.0 t h.1 short), h.2, short))
+prints_form NotBuilt call text contents literals t short form fine h p = absurd (h.3 literals (subst (λ (b : List ℕ). IsFirstForm b literals) (sym (handed_whole call.words call.shelf contents h.0 t h.1 short)) form))
+prints_form WriteFault call text contents literals t short form fine h p = absurd (fine p.1)
+prints_form (Memory steps) call text contents literals t short form fine h p = inr (refl, subst (Gained call.out) h.4 p)
+prints_form Finished call text contents literals t short form fine h p =
+    let a = h.2 in
+    let own : IsFirstForm contents a.literals = subst (λ (b : List ℕ). IsFirstForm b a.literals) (handed_whole call.words call.shelf contents h.0 t h.1 short) a.form in
+    let same : a.literals ≡ literals = reads_one_way contents a.literals literals own form in
+    inl (refl, subst (Gained call.out) (a.text_is ∙ ap printed same) p)
+
+pub completes : (call : Call) → Ran call → Completes call
+completes call r contents literals t short form out_fine err_fine = elim r.reports [
+  | inl p ↦ elim (prints_form r.answer call r.text contents literals t short form out_fine r.comes r.prints) [
+    | inl q ↦ inl (p.0 ∙ q.0, q.1)
+    | inr q ↦ inr (p.0 ∙ q.0, q.1)
+  ]
+  | inr p ↦ absurd (err_fine p.2)
+]

@@ -1,0 +1,27 @@
+-- How a call ends: the status of each answer, and its line on standard error.
+use Rattle.std.specs.Prelude.{ℕ, List, [], ◌∷◌, ◌++◌, codes}
+use Rattle.std.specs.Fmt.{decimal}
+use Rattle.actx_cli.specs.declared.answer.Answer.{Answer}
+use Rattle.actx_cli.specs.declared.answer.Answer.TheVariants.{Finished, Usage, CannotRead, TooLong, NotBuilt, WriteFault, Memory}
+
+abbrev pub status_of : Answer → ℕ
+status_of Finished = 0
+status_of Usage = 64
+status_of NotBuilt = 65
+status_of CannotRead = 66
+status_of TooLong = 66
+status_of WriteFault = 74
+status_of (Memory steps) = 75
+
+-- a line and its line feed
+abbrev pub line_feed : List ℕ
+line_feed = 10 ∷ []
+
+abbrev pub line_of : Answer → List ℕ
+line_of Finished = []
+line_of Usage = codes "actx: usage" ++ line_feed
+line_of NotBuilt = codes "actx: refused notbuilt at 0" ++ line_feed
+line_of CannotRead = codes "actx: cannot read" ++ line_feed
+line_of TooLong = codes "actx: too long" ++ line_feed
+line_of WriteFault = codes "actx: write fault" ++ line_feed
+line_of (Memory steps) = codes "actx: memory after " ++ (decimal steps ++ (codes " steps" ++ line_feed))

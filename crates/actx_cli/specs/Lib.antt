@@ -1,0 +1,9 @@
+pub mod Words
+pub mod Found
+pub mod Printed
+pub mod Answers
+pub mod Sinks
+pub mod Calls
+pub mod Runs
+pub mod Phases
+pub mod Statuses

@@ -1,0 +1,17 @@
+//! The command line of the program: the words, the top call, statuses and error lines.
+#![tactic(auto)]
+
+mod answer;
+mod pieces;
+mod prepare;
+mod report;
+mod sinks;
+mod top;
+mod words;
+
+pub use answer::Answer;
+pub use top::actx;
+pub use words::{Feed, Usage, Words, read_words};
+
+#[cfg(test)]
+mod tests;

@@ -1,0 +1,58 @@
+//! The status of an answer, and its line on standard error.
+
+ghost use Rattle.std.specs.Prelude.{◌≡◌};
+ghost use Rattle.actx_cli.specs.Answers.{line_of, status_of};
+ghost use Rattle.actx_cli.specs.Calls.{from_to};
+ghost use Rattle.actx_cli.specs.Runs.{Reports};
+ghost use Rattle.actx_cli.specs.Sinks.{Puts};
+
+use crate::answer::Answer;
+use crate::sinks::{put, put_three};
+use actx_outside::{Sink, SinkFault};
+use itoa::Buffer;
+
+// It takes no memory, so it can be said where there is none.
+fn put_memory<E: Sink>(err: &mut E, steps: u64) -> Result<(), SinkFault>
+    ensures { Puts (E.state err.old) (E.state err.new) (line_of (Answer.Memory steps)) result }
+{
+    let mut buffer = Buffer::new();
+    let digits = buffer.format(steps).as_bytes();
+    put_three(err, b"actx: memory after ", digits, b" steps\n")
+}
+
+fn put_line<E: Sink>(err: &mut E, answer: Answer) -> Result<(), SinkFault>
+    ensures { Puts (E.state err.old) (E.state err.new) (line_of answer) result }
+{
+    match answer {
+        Answer::Finished => Ok(()),
+        Answer::Usage => put(err, b"actx: usage\n"),
+        Answer::NotBuilt => put(err, b"actx: refused notbuilt at 0\n"),
+        Answer::CannotRead => put(err, b"actx: cannot read\n"),
+        Answer::TooLong => put(err, b"actx: too long\n"),
+        Answer::WriteFault => put(err, b"actx: write fault\n"),
+        Answer::Memory { steps } => put_memory(err, steps),
+    }
+}
+
+fn status(answer: Answer) -> u8
+    ensures { result ≡ status_of answer }
+{
+    match answer {
+        Answer::Finished => 0,
+        Answer::Usage => 64,
+        Answer::NotBuilt => 65,
+        Answer::CannotRead | Answer::TooLong => 66,
+        Answer::WriteFault => 74,
+        Answer::Memory { .. } => 75,
+    }
+}
+
+/// Writes the answer's line, and gives the status: 74 where the line couldn't be written whole.
+pub fn report<E: Sink>(err: &mut E, answer: Answer) -> u8
+    ensures { Reports answer (from_to (E.state err.old) (E.state err.new)) result }
+{
+    match put_line(err, answer) {
+        Ok(()) => status(answer),
+        Err(_) => 74,
+    }
+}

@@ -1,0 +1,260 @@
+use super::*;
+use actx_outside::{ClockTape, ListShelf, MemSink};
+use std::alloc::Global;
+use std::process::Abort;
+use std::test::Fail;
+
+// A call: its words, what `f.js` holds, and which fetches, writes and reports fail.
+#[derive(Clone, Copy)]
+struct Case<'a> {
+    words: &'a [&'a str],
+    file: &'a [u8],
+    cut: usize,
+    fetches: &'a [u64],
+    writes: &'a [u64],
+    reports: &'a [u64],
+}
+
+const RUN: Case<'static> = Case {
+    words: &["run", "f.js"],
+    file: b"",
+    cut: 1000,
+    fetches: &[],
+    writes: &[],
+    reports: &[],
+};
+
+// What a call came to.
+#[derive(Drop)]
+struct Seen {
+    status: u8,
+    out: Vec<u8>,
+    err: Vec<u8>,
+}
+
+fn call(alloc: Global, case: &Case<'_>) -> Result<Seen, Fail> {
+    let mut words = Vec::new(alloc);
+    for word in case.words {
+        words.push(String::from_str(alloc, *word)?)?;
+    }
+    let mut files = Vec::new(alloc);
+    files.push((
+        String::from_str(alloc, "f.js")?,
+        Vec::from_slice(alloc, case.file)?,
+    ))?;
+    let mut shelf = ListShelf::new(alloc, files, Vec::from_slice(alloc, case.fetches)?);
+    let mut out = MemSink::new(alloc, case.cut.max(1), Vec::from_slice(alloc, case.writes)?);
+    let mut err = MemSink::new(
+        alloc,
+        case.cut.max(1),
+        Vec::from_slice(alloc, case.reports)?,
+    );
+    let mut tape = ClockTape::new();
+    let status = actx(alloc, &words, &mut shelf, &mut out, &mut err, &mut tape);
+    Ok(Seen {
+        status,
+        out: Vec::from_slice(alloc, out.as_slice())?,
+        err: Vec::from_slice(alloc, err.as_slice())?,
+    })
+}
+
+fn check(
+    rt: &(impl Abort + AllocGlobal),
+    case: &Case<'_>,
+    status: u8,
+    out: &[u8],
+    err: &[u8],
+) -> Result<(), Fail> {
+    let seen = call(rt.alloc(), case)?;
+    assert_eq!(rt; seen.out.as_slice(), out);
+    assert_eq!(rt; seen.err.as_slice(), err);
+    assert_eq!(rt; seen.status, status);
+    Ok(())
+}
+
+#[test]
+fn files_that_print(rt: HostRuntime) -> Result<(), Fail> {
+    for (file, out) in [
+        (
+            b"console.log('hello', 7);".as_slice(),
+            b"hello 7\n".as_slice(),
+        ),
+        (b"", b""),
+        (b"console.log();", b"\n"),
+        (
+            b"console.log(9007199254740991, true, null);",
+            b"9007199254740991 true null\n",
+        ),
+        (
+            b" console.log(false);\nconsole.log( '' , 0 ); ",
+            b"false\n 0\n",
+        ),
+    ] {
+        check(&rt, &Case { file, ..RUN }, 0, out, b"")?;
+        check(
+            &rt,
+            &Case {
+                file,
+                cut: 1,
+                ..RUN
+            },
+            0,
+            out,
+            b"",
+        )?;
+    }
+    Ok(())
+}
+
+#[test]
+fn files_that_are_not_built(rt: HostRuntime) -> Result<(), Fail> {
+    for file in [
+        b"console.log(9007199254740992);".as_slice(),
+        b"\xC3",
+        b"console.log(1)",
+        b"console.log(1 + 1);",
+    ] {
+        check(
+            &rt,
+            &Case { file, ..RUN },
+            65,
+            b"",
+            b"actx: refused notbuilt at 0\n",
+        )?;
+    }
+    Ok(())
+}
+
+#[test]
+fn words_that_are_no_command_line(rt: HostRuntime) -> Result<(), Fail> {
+    for words in [
+        [].as_slice(),
+        ["run"].as_slice(),
+        ["run", ""].as_slice(),
+        ["run", "-f.js"].as_slice(),
+        ["run", "f.js", "f.js"].as_slice(),
+        ["walk", "f.js"].as_slice(),
+        ["Run", "f.js"].as_slice(),
+    ] {
+        check(&rt, &Case { words, ..RUN }, 64, b"", b"actx: usage\n")?;
+    }
+    Ok(())
+}
+
+#[test]
+fn files_that_cannot_be_read(rt: HostRuntime) -> Result<(), Fail> {
+    let line = b"actx: cannot read\n";
+    let lacking = Case {
+        words: &["run", "g.js"],
+        ..RUN
+    };
+    check(&rt, &lacking, 66, b"", line)?;
+    let failing = Case {
+        file: b"console.log();",
+        fetches: &[0],
+        ..RUN
+    };
+    check(&rt, &failing, 66, b"", line)
+}
+
+#[test]
+fn a_file_that_is_too_long(rt: HostRuntime) -> Result<(), Fail> {
+    let mut spaces = Vec::new(rt.alloc());
+    for _ in 0..1_048_576 {
+        spaces.push(b' ')?;
+    }
+    check(
+        &rt,
+        &Case {
+            file: &spaces,
+            ..RUN
+        },
+        0,
+        b"",
+        b"",
+    )?;
+    spaces.push(b' ')?;
+    check(
+        &rt,
+        &Case {
+            file: &spaces,
+            ..RUN
+        },
+        66,
+        b"",
+        b"actx: too long\n",
+    )
+}
+
+#[test]
+fn the_second_write_fails(rt: HostRuntime) -> Result<(), Fail> {
+    let case = Case {
+        file: b"console.log(1); console.log(2);",
+        writes: &[1],
+        ..RUN
+    };
+    check(&rt, &case, 74, b"1\n", b"actx: write fault\n")
+}
+
+// With one byte a write, each write in turn fails: what stands before it was gained, and nothing else.
+#[test]
+fn each_write_fails_in_turn(rt: HostRuntime) -> Result<(), Fail> {
+    let text = b"a 12\ntrue\n";
+    for place in 0..text.len() {
+        let case = Case {
+            file: b"console.log('a', 12); console.log(true);",
+            cut: 1,
+            writes: &[place as u64],
+            ..RUN
+        };
+        check(&rt, &case, 74, &text[..place], b"actx: write fault\n")?;
+    }
+    Ok(())
+}
+
+// The line of a refusal likewise: the status is then that of a failed write.
+#[test]
+fn each_report_fails_in_turn(rt: HostRuntime) -> Result<(), Fail> {
+    for (words, line) in [
+        (["run"].as_slice(), b"actx: usage\n".as_slice()),
+        (
+            ["run", "g.js"].as_slice(),
+            b"actx: cannot read\n".as_slice(),
+        ),
+    ] {
+        for place in 0..line.len() {
+            let case = Case {
+                words,
+                cut: 1,
+                reports: &[place as u64],
+                ..RUN
+            };
+            check(&rt, &case, 74, b"", &line[..place])?;
+        }
+    }
+    let both = Case {
+        file: b"console.log(1);",
+        writes: &[0],
+        reports: &[0],
+        ..RUN
+    };
+    check(&rt, &both, 74, b"", b"")
+}
+
+#[test]
+fn words_are_read(rt: HostRuntime) -> Result<(), Fail> {
+    let alloc = rt.alloc();
+    let words = vec![in alloc;
+        String::from_str(alloc, "run")?,
+        String::from_str(alloc, "a b.js")?,
+    ]?;
+    match read_words(&words) {
+        Ok(Words::Run { steps, feed, file }) => {
+            assert_eq!(rt; steps, 50_000_000);
+            assert_eq!(rt; feed, Feed::Given);
+            assert_eq!(rt; file, "a b.js");
+        }
+        Err(_) => assert!(rt; false, "it is a command line"),
+    }
+    Ok(())
+}

@@ -22,3 +22,6 @@ pub use order::{compare, same};
 pub use pieces::{at, concat, copy, len, slice};
 pub use quoting::quoted;
 pub use units::{Units, as_units, from_units};
+
+#[cfg(test)]
+mod tests;

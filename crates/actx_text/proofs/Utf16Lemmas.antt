@@ -98,11 +98,11 @@ scalars_of-utf16 (c ∷ cs) all =
     ∙ ap (λ x. c ∷ x) (scalars_of-utf16 cs (All-tail IsScalar c cs all))
 
 -- the scalar values of units are such, and their units are the well-formed text
-pub record ComesBack (scalars text : List ℕ) : Type 0 where
+pub record IsRoundTrip (scalars text : List ℕ) : Type 0 where
   pub valid : All IsScalar scalars
   pub units : text ≡ flat_map utf16_of scalars
 
-more : (c : ℕ) (scalars text : List ℕ) → IsScalar c → ComesBack scalars text → ComesBack (c ∷ scalars) (utf16_of c ++ text)
+more : (c : ℕ) (scalars text : List ℕ) → IsScalar c → IsRoundTrip scalars text → IsRoundTrip (c ∷ scalars) (utf16_of c ++ text)
 more c scalars text s back = record {
   valid = All-cons IsScalar c scalars s back.valid;
   units = ap (λ x. utf16_of c ++ x) back.units;
@@ -118,14 +118,14 @@ lone_valid false u e small = (by (and_cases (nat_le 0xD800 u) (nat_lt u 0xE000) 
     by (inr above) = let h = ltb-false u 0xE000 above in inr (h, omega arith)
 
 -- a unit that is in no pair, and then what follows
-lone_back : (u : ℕ) (scalars text : List ℕ) → u < 2 ^ 16 → ComesBack scalars text → ComesBack (lone_scalar u ∷ scalars) (lone_scalar u ∷ text)
-lone_back u scalars text small back =
+lone_round_trip : (u : ℕ) (scalars text : List ℕ) → u < 2 ^ 16 → IsRoundTrip scalars text → IsRoundTrip (lone_scalar u ∷ scalars) (lone_scalar u ∷ text)
+lone_round_trip u scalars text small back =
     let valid = lone_valid (is_surrogate u) u refl small in
     rw (one_unit (lone_scalar u) valid.1) at (more (lone_scalar u) scalars text valid.0 back)
 
 -- the units of the scalar value of a pair are the pair
-pair_back : (u v : ℕ) (scalars text : List ℕ) → (is_leading u && is_trailing v) ≡ true → ComesBack scalars text → ComesBack (pair_scalar u v ∷ scalars) (u ∷ v ∷ text)
-pair_back u v scalars text e back =
+pair_round_trip : (u v : ℕ) (scalars text : List ℕ) → (is_leading u && is_trailing v) ≡ true → IsRoundTrip scalars text → IsRoundTrip (pair_scalar u v ∷ scalars) (u ∷ v ∷ text)
+pair_round_trip u v scalars text e back =
     let parts = and_parts (is_leading u) (is_trailing v) e in
     let first = and_parts (nat_le 0xD800 u) (nat_lt u 0xDC00) parts.0 in
     let second = and_parts (nat_le 0xDC00 v) (nat_lt v 0xE000) parts.1 in
@@ -137,17 +137,17 @@ pair_back u v scalars text e back =
     two_units (pair_scalar u v) (omega arith) ∙ ap₂ (λ x y. x ∷ y ∷ []) (omega arith) (omega arith) in
     rw units at (more (pair_scalar u v) scalars text (inr (omega arith, omega arith)) back)
 
-either_back : (pair : Bool) (u v : ℕ) (s t x y : List ℕ) → pair ≡ (is_leading u && is_trailing v) → u < 2 ^ 16
-    → ComesBack s x → ComesBack t y
-    → ComesBack (if pair then pair_scalar u v ∷ s else lone_scalar u ∷ t) (if pair then u ∷ v ∷ x else lone_scalar u ∷ y)
-either_back true u v s t x y e small here there = pair_back u v s x (sym e) here
-either_back false u v s t x y e small here there = lone_back u t y small there
+either_round_trip : (pair : Bool) (u v : ℕ) (s t x y : List ℕ) → pair ≡ (is_leading u && is_trailing v) → u < 2 ^ 16
+    → IsRoundTrip s x → IsRoundTrip t y
+    → IsRoundTrip (if pair then pair_scalar u v ∷ s else lone_scalar u ∷ t) (if pair then u ∷ v ∷ x else lone_scalar u ∷ y)
+either_round_trip true u v s t x y e small here there = pair_round_trip u v s x (sym e) here
+either_round_trip false u v s t x y e small here there = lone_round_trip u t y small there
 
-pub comes_back : (us : List ℕ) → All (λ u. u < 2 ^ 16) us → ComesBack (scalars_of us) (well_formed us)
+pub scalars_of-IsRoundTrip : (us : List ℕ) → All (λ u. u < 2 ^ 16) us → IsRoundTrip (scalars_of us) (well_formed us)
 unfolding scalars_of well_formed
-comes_back [] all = record { valid = All-nil IsScalar; units = refl }
-comes_back (u ∷ []) all = lone_back u [] [] (All-head (λ x. x < 2 ^ 16) u [] all) (record { valid = All-nil IsScalar; units = refl })
-comes_back (u ∷ v ∷ rest) all =
+scalars_of-IsRoundTrip [] all = record { valid = All-nil IsScalar; units = refl }
+scalars_of-IsRoundTrip (u ∷ []) all = lone_round_trip u [] [] (All-head (λ x. x < 2 ^ 16) u [] all) (record { valid = All-nil IsScalar; units = refl })
+scalars_of-IsRoundTrip (u ∷ v ∷ rest) all =
     let tail = All-tail (λ x. x < 2 ^ 16) u (v ∷ rest) all in
-    either_back (is_leading u && is_trailing v) u v (scalars_of rest) (scalars_of (v ∷ rest)) (well_formed rest) (well_formed (v ∷ rest)) refl
-    (All-head (λ x. x < 2 ^ 16) u (v ∷ rest) all) (comes_back rest (All-tail (λ x. x < 2 ^ 16) v rest tail)) (comes_back (v ∷ rest) tail)
+    either_round_trip (is_leading u && is_trailing v) u v (scalars_of rest) (scalars_of (v ∷ rest)) (well_formed rest) (well_formed (v ∷ rest)) refl
+    (All-head (λ x. x < 2 ^ 16) u (v ∷ rest) all) (scalars_of-IsRoundTrip rest (All-tail (λ x. x < 2 ^ 16) v rest tail)) (scalars_of-IsRoundTrip (v ∷ rest) tail)

@@ -14,12 +14,12 @@ abbrev pub HasOneDecoding : Type 0
 HasOneDecoding = (bytes scalars others : List ℕ) → IsUtf8Of bytes scalars → IsUtf8Of bytes others → scalars ≡ others
 
 -- the bytes of the text that some bytes spell are these bytes
-abbrev pub BytesComeBack : Type 0
-BytesComeBack = (bytes text : List ℕ) → IsTextOf bytes text → utf8_text text ≡ bytes
+abbrev pub BytesRoundTrip : Type 0
+BytesRoundTrip = (bytes text : List ℕ) → IsTextOf bytes text → utf8_text text ≡ bytes
 
 -- the bytes of a text spell the text with U+FFFD in the place of each lone surrogate
-abbrev pub TextComesBack : Type 0
-TextComesBack = (text : List ℕ) → AreUnits text → IsTextOf (utf8_text text) (well_formed text)
+abbrev pub TextRoundTrip : Type 0
+TextRoundTrip = (text : List ℕ) → AreUnits text → IsTextOf (utf8_text text) (well_formed text)
 
 -- where two quoted texts stand at the front of the same bytes, they are one text
 abbrev pub HasOneReading : Type 0

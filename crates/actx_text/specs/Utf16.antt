@@ -33,7 +33,7 @@ scalars_of (u ∷ v ∷ rest) = if is_leading u && is_trailing v then pair_scala
     else lone_scalar u ∷ scalars_of (v ∷ rest)
 
 -- the units with U+FFFD in the place of each lone surrogate
--- (String.prototype.toWellFormed, ECMA-262 §22.1.3.33)
+-- (String.prototype.toWellFormed, ECMA-262 §22.1.3.31)
 unfoldable pub well_formed : List ℕ → List ℕ
 well_formed [] = []
 well_formed (u ∷ []) = lone_scalar u ∷ []

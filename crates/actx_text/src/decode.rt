@@ -16,7 +16,7 @@ use std::alloc::{AllocError, Global};
 /// `BadUtf8` exactly where the bytes are not UTF-8, with the place of the first byte of the first
 /// ill-formed sequence. `Memory` where there is no room for the text.
 pub fn from_utf8(alloc: Global, bytes: &[u8]) -> Result<Units, TextError>
-    ensures text { IfOk result (λ text. IsTextOf bytes.now text) }
+    ensures text { IfOk result (IsTextOf bytes.now) }
     ensures given { (scalars : List ℕ) → IsUtf8Of bytes.now scalars → GivesText result (utf16_text scalars) }
 
     // The place of a refusal, and that no longer front of the bytes is UTF-8.

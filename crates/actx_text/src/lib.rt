@@ -16,7 +16,7 @@ pub use body_id::BodyId;
 pub use decode::from_utf8;
 pub use encode::to_utf8;
 pub use error::TextError;
-pub use laws::{bytes_come_back, one_decoding, one_reading, text_comes_back};
+pub use laws::{bytes_round_trip, one_decoding, one_reading, text_round_trip, units_fit};
 pub use number::number_text;
 pub use order::{compare, same};
 pub use pieces::{at, concat, copy, len, slice};

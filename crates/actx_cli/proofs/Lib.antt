@@ -2,4 +2,5 @@ pub mod Lits
 pub mod Gained
 pub mod Phases
 pub mod Statuses
+pub mod Refusals
 pub mod Told

@@ -6,11 +6,12 @@ use Rattle.std.specs.declared.alloc.Global.{Global}
 use Rattle.actx_outside.specs.Files.{ShelfState, IsFetched}
 use Rattle.actx_outside.specs.Streams.{SinkState}
 use Rattle.actx_cli.specs.declared.answer.Answer.{Answer}
-use Rattle.actx_cli.specs.declared.answer.Answer.TheVariants.{Finished, Usage, CannotRead, TooLong, NotBuilt, WriteFault, Memory}
+use Rattle.actx_cli.specs.declared.answer.Answer.TheVariants.{Finished, Usage, CannotRead, TooLong, Refused, WriteFault, Memory}
 use Rattle.actx_cli.specs.Words.{Names}
 use Rattle.actx_cli.specs.Calls.{Change, from_to}
-use Rattle.actx_cli.specs.Runs.{longest, NoneFailed, IsAccepted, Prints, Comes}
-use Rattle.actx_cli.specs.Phases.{SourceFails, FormFails, IsRefusal}
+use Rattle.actx_cli.specs.Accepted.{longest, IsAccepted}
+use Rattle.actx_cli.specs.Runs.{NoneFailed, Prints, Comes}
+use Rattle.actx_cli.specs.Phases.{SourceFails, ReadingFails, IsRefusal}
 use Rattle.actx_cli.proofs.Gained.{appends_none}
 
 -- the file was not handed over
@@ -20,16 +21,16 @@ unsourced words shelf file TooLong n h = (tt, (h.0, record { file = file; named 
 unsourced words shelf file (Memory steps) n h = (tt, (file, n, h.1, h.0, refl))
 unsourced words shelf file Finished n h = absurd h
 unsourced words shelf file Usage n h = absurd h
-unsourced words shelf file NotBuilt n h = absurd h
+unsourced words shelf file (Refused kind at) n h = absurd h
 unsourced words shelf file WriteFault n h = absurd h
 
--- the file was handed over, and its form decides
+-- the file was handed over, and its reading decides
 pub prepared : (words : List (List ℕ)) (shelf : Change ShelfState) (file bytes : List ℕ) (r : Result (Vec (Vec ℕ Global) Global) Answer)
     → Names words file → IsFetched shelf.old.files file longest bytes → length bytes ≤ longest → NoneFailed shelf
-    → MatchResult r (λ found. IsAccepted bytes (flat_map (λ piece. piece.items) found.items)) (λ e. FormFails bytes e)
+    → MatchResult r (λ found. IsAccepted bytes (flat_map (λ piece. piece.items) found.items)) (λ e. ReadingFails bytes e)
     → MatchResult r (λ found. Comes words shelf Finished (flat_map (λ piece. piece.items) found.items)) (λ e. IsRefusal e × Comes words shelf e [])
 prepared words shelf file bytes (Ok found) n f short same h = (bytes, record { file = file; named = n; fetched = f; failed = same }, h)
-prepared words shelf file bytes (Err NotBuilt) n f short same h = (tt, (bytes, record { file = file; named = n; fetched = f; failed = same }, short, h, refl))
+prepared words shelf file bytes (Err (Refused kind at)) n f short same h = (tt, (bytes, record { file = file; named = n; fetched = f; failed = same }, short, h, refl))
 prepared words shelf file bytes (Err (Memory steps)) n f short same h = (tt, (file, n, same, h, refl))
 prepared words shelf file bytes (Err Finished) n f short same h = absurd h
 prepared words shelf file bytes (Err Usage) n f short same h = absurd h
@@ -45,5 +46,5 @@ refused words shelf out WriteFault i h = absurd i
 refused words shelf out Usage i h = ([], h, appends_none out.bytes)
 refused words shelf out CannotRead i h = ([], h, appends_none out.bytes)
 refused words shelf out TooLong i h = ([], h, appends_none out.bytes)
-refused words shelf out NotBuilt i h = ([], h, appends_none out.bytes)
+refused words shelf out (Refused kind at) i h = ([], h, appends_none out.bytes)
 refused words shelf out (Memory steps) i h = ([], h, appends_none out.bytes)

@@ -4,12 +4,12 @@ use Rattle.std.specs.Io.KnownBytes.{Appends}
 use Rattle.actx_outside.specs.Files.{ShelfState}
 use Rattle.actx_outside.specs.Streams.{SinkState}
 use Rattle.actx_cli.specs.declared.answer.Answer.{Answer}
-use Rattle.actx_cli.specs.declared.answer.Answer.TheVariants.{Finished, Usage, CannotRead, TooLong, NotBuilt, WriteFault, Memory}
+use Rattle.actx_cli.specs.declared.answer.Answer.TheVariants.{Finished, Usage, CannotRead, TooLong, Refused, WriteFault, Memory}
 use Rattle.actx_cli.specs.Words.{Run, Names, IsNoCommand}
 use Rattle.actx_cli.specs.Answers.{status_of, line_of}
 use Rattle.actx_cli.specs.Calls.{Change, Call}
 use Rattle.actx_cli.specs.Runs.{Comes, Prints, Reports, Ran}
-use Rattle.actx_cli.specs.Statuses.{Gained, SaysOnly, Faulted, FinishedOnly, UsageOnly, UsageAlways, NotBuiltOnly, NoFileOnly, IsUnread, IsTooLong, WriteFaultOnly, MemoryOnly, OneOfSix}
+use Rattle.actx_cli.specs.Statuses.{Gained, SaysOnly, Faulted, FinishedOnly, UsageOnly, UsageAlways, RefusedOnly, NoFileOnly, IsUnread, IsTooLong, WriteFaultOnly, MemoryOnly, OneOfSix}
 
 no_name : {words : List (List ℕ)} {file : List ℕ} → IsNoCommand words → Names words file → ⊥
 no_name {file = file} none named = none (Run named.0 named.1 file) named.2
@@ -26,7 +26,7 @@ finished_is call Finished text h p s e z = λ _. (h.0, text, h.1, h.2, p, s)
 finished_is call Usage text h p s e z = absurd (omega (arith, e))
 finished_is call CannotRead text h p s e z = absurd (omega (arith, e))
 finished_is call TooLong text h p s e z = absurd (omega (arith, e))
-finished_is call NotBuilt text h p s e z = absurd (omega (arith, e))
+finished_is call (Refused kind at) text h p s e z = absurd (omega (arith, e))
 finished_is call WriteFault text h p s e z = absurd (omega (arith, e))
 finished_is call (Memory steps) text h p s e z = absurd (omega (arith, e))
 
@@ -40,7 +40,7 @@ usage_is call Usage text h p s e = λ _. (h.0, h.1, (subst (Gained call.out) h.2
 usage_is call Finished text h p s e = absurd (omega (arith, e))
 usage_is call CannotRead text h p s e = absurd (omega (arith, e))
 usage_is call TooLong text h p s e = absurd (omega (arith, e))
-usage_is call NotBuilt text h p s e = absurd (omega (arith, e))
+usage_is call (Refused kind at) text h p s e = absurd (omega (arith, e))
 usage_is call WriteFault text h p s e = absurd (omega (arith, e))
 usage_is call (Memory steps) text h p s e = absurd (omega (arith, e))
 
@@ -49,24 +49,24 @@ usage_only call r z =
     let s = said r.answer call.err call.status r.reports (λ e. omega (arith, e, z)) in
     usage_is call r.answer r.text r.comes r.prints s.1 (sym s.0 ∙ z) z
 
-not_built_is : (call : Call) (answer : Answer) (text : List ℕ) → Comes call.words call.shelf answer text → Prints answer text call.out → Gained call.err (line_of answer) → status_of answer ≡ 65 → NotBuiltOnly call
-not_built_is call NotBuilt text h p s e = λ _. (h.0, h.1, h.2, h.3, (subst (Gained call.out) h.4 p, s))
-not_built_is call Usage text h p s e = absurd (omega (arith, e))
-not_built_is call Finished text h p s e = absurd (omega (arith, e))
-not_built_is call CannotRead text h p s e = absurd (omega (arith, e))
-not_built_is call TooLong text h p s e = absurd (omega (arith, e))
-not_built_is call WriteFault text h p s e = absurd (omega (arith, e))
-not_built_is call (Memory steps) text h p s e = absurd (omega (arith, e))
+refused_is : (call : Call) (answer : Answer) (text : List ℕ) → Comes call.words call.shelf answer text → Prints answer text call.out → Gained call.err (line_of answer) → status_of answer ≡ 65 → RefusedOnly call
+refused_is call (Refused kind at) text h p s e = λ _. (h.0, kind, at, h.1, h.2, h.3, (subst (Gained call.out) h.4 p, s))
+refused_is call Usage text h p s e = absurd (omega (arith, e))
+refused_is call Finished text h p s e = absurd (omega (arith, e))
+refused_is call CannotRead text h p s e = absurd (omega (arith, e))
+refused_is call TooLong text h p s e = absurd (omega (arith, e))
+refused_is call WriteFault text h p s e = absurd (omega (arith, e))
+refused_is call (Memory steps) text h p s e = absurd (omega (arith, e))
 
-pub not_built_only : (call : Call) → Ran call → NotBuiltOnly call
-not_built_only call r z =
+pub refused_only : (call : Call) → Ran call → RefusedOnly call
+refused_only call r z =
     let s = said r.answer call.err call.status r.reports (λ e. omega (arith, e, z)) in
-    not_built_is call r.answer r.text r.comes r.prints s.1 (sym s.0 ∙ z) z
+    refused_is call r.answer r.text r.comes r.prints s.1 (sym s.0 ∙ z) z
 
 no_file_is : (call : Call) (answer : Answer) (text : List ℕ) → Comes call.words call.shelf answer text → Prints answer text call.out → Gained call.err (line_of answer) → status_of answer ≡ 66 → NoFileOnly call
 no_file_is call CannotRead text h p s e = λ _. inl (h.0, h.1, h.2, (subst (Gained call.out) h.3 p, s))
 no_file_is call TooLong text h p s e = λ _. inr (h.0, h.1, h.2, (subst (Gained call.out) h.3 p, s))
-no_file_is call NotBuilt text h p s e = absurd (omega (arith, e))
+no_file_is call (Refused kind at) text h p s e = absurd (omega (arith, e))
 no_file_is call Usage text h p s e = absurd (omega (arith, e))
 no_file_is call Finished text h p s e = absurd (omega (arith, e))
 no_file_is call WriteFault text h p s e = absurd (omega (arith, e))
@@ -81,7 +81,7 @@ memory_is : (call : Call) (answer : Answer) (text : List ℕ) → Comes call.wor
 memory_is call (Memory steps) text h p s e = λ _. (h.2, (subst (Gained call.out) h.4 p, subst (λ (n : ℕ). Gained call.err (line_of (Memory n))) h.3 s))
 memory_is call CannotRead text h p s e = absurd (omega (arith, e))
 memory_is call TooLong text h p s e = absurd (omega (arith, e))
-memory_is call NotBuilt text h p s e = absurd (omega (arith, e))
+memory_is call (Refused kind at) text h p s e = absurd (omega (arith, e))
 memory_is call Usage text h p s e = absurd (omega (arith, e))
 memory_is call Finished text h p s e = absurd (omega (arith, e))
 memory_is call WriteFault text h p s e = absurd (omega (arith, e))
@@ -95,7 +95,7 @@ fault_is : (call : Call) (answer : Answer) (text : List ℕ) → Prints answer t
 fault_is call WriteFault text p e = p.1
 fault_is call CannotRead text p e = absurd (omega (arith, e))
 fault_is call TooLong text p e = absurd (omega (arith, e))
-fault_is call NotBuilt text p e = absurd (omega (arith, e))
+fault_is call (Refused kind at) text p e = absurd (omega (arith, e))
 fault_is call Usage text p e = absurd (omega (arith, e))
 fault_is call Finished text p e = absurd (omega (arith, e))
 fault_is call (Memory steps) text p e = absurd (omega (arith, e))
@@ -109,7 +109,7 @@ write_fault_only call r z = elim r.reports [
 status_is : (answer : Answer) (n : ℕ) → n ≡ status_of answer → (n ≡ 0) ⊎ (n ≡ 64) ⊎ (n ≡ 65) ⊎ (n ≡ 66) ⊎ (n ≡ 74) ⊎ (n ≡ 75)
 status_is Finished n e = inl e
 status_is Usage n e = inr (inl e)
-status_is NotBuilt n e = inr (inr (inl e))
+status_is (Refused kind at) n e = inr (inr (inl e))
 status_is CannotRead n e = inr (inr (inr (inl e)))
 status_is TooLong n e = inr (inr (inr (inl e)))
 status_is WriteFault n e = inr (inr (inr (inr (inl e))))
@@ -126,7 +126,7 @@ usage_due Usage words shelf text h n = refl
 usage_due Finished words shelf text h n = absurd (no_name n h.1.named)
 usage_due CannotRead words shelf text h n = absurd (no_name n h.1)
 usage_due TooLong words shelf text h n = absurd (no_name n h.1.named)
-usage_due NotBuilt words shelf text h n = absurd (no_name n h.1.named)
+usage_due (Refused kind at) words shelf text h n = absurd (no_name n h.1.named)
 usage_due WriteFault words shelf text h n = absurd (no_name n h.1.named)
 usage_due (Memory steps) words shelf text h n = absurd (no_name n h.1)
 

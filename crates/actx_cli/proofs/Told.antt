@@ -1,20 +1,19 @@
 -- What a call comes to over a shelf that tells its files.
-use Rattle.std.proofs.Common.{◌≡◌, ◌⊎◌, inl, inr, ℕ, ◌+◌, ◌≤◌, ◌<◌, List, [], ◌∷◌, ◌++◌, length, take, Option, Some, refl, sym, ap, subst, ◌∙◌, arith, length-append, length-take}
+use Rattle.std.proofs.Common.{◌≡◌, ◌⊎◌, inl, inr, ℕ, ◌+◌, ◌≤◌, ◌<◌, List, [], ◌∷◌, ◌++◌, length, take, Option, Some, refl, sym, ap, ap₂, subst, ◌∙◌, arith, length-append, length-take}
 use Rattle.std.proofs.lemmas.List.{take_all}
 use Rattle.std.specs.Io.KnownBytes.{Appends}
 use Rattle.actx_outside.specs.Files.{ShelfState, IsFetched, IsFront, contents_of}
 use Rattle.actx_outside.specs.Streams.{SinkState}
-use Rattle.actx_parse.specs.FirstForm.{IsFirstForm}
-use Rattle.actx_parse.specs.declared.lit.Lit.{Lit}
-use Rattle.actx_parse.proofs.Laws.{reads_one_way}
 use Rattle.actx_cli.specs.declared.answer.Answer.{Answer}
-use Rattle.actx_cli.specs.declared.answer.Answer.TheVariants.{Finished, Usage, CannotRead, TooLong, NotBuilt, WriteFault, Memory}
+use Rattle.actx_cli.specs.declared.answer.Answer.TheVariants.{Finished, Usage, CannotRead, TooLong, Refused, WriteFault, Memory}
 use Rattle.actx_cli.specs.Words.{Run, Feed, Given, Names, IsCommand, run_word}
-use Rattle.actx_cli.specs.Answers.{status_of}
-use Rattle.actx_cli.specs.Printed.{printed}
+use Rattle.actx_cli.specs.Answers.{status_of, line_of}
+use Rattle.actx_cli.specs.Accepted.{longest, IsAccepted, IsRefused}
+use Rattle.actx_cli.specs.declared.answer.Refusal.{Refusal}
+use Rattle.actx_cli.proofs.Refusals.{one_refusal, not_both, one_text}
 use Rattle.actx_cli.specs.Calls.{Change, Call}
-use Rattle.actx_cli.specs.Runs.{longest, IsHanded, IsNotForm, Comes, Prints, Ran}
-use Rattle.actx_cli.specs.Statuses.{Gained, Faulted, IsTold, NotBuiltAlways, TooLongAlways, Completes}
+use Rattle.actx_cli.specs.Runs.{IsHanded, Comes, Prints, Ran}
+use Rattle.actx_cli.specs.Statuses.{Gained, SaysOnly, Faulted, IsTold, RefusedAlways, TooLongAlways, Completes}
 
 -- the command line names one file
 spelled : (words : List (List ℕ)) (steps : ℕ) (feed : Feed) (file : List ℕ) → IsCommand words (Run steps feed file) → words ≡ run_word ∷ file ∷ []
@@ -47,20 +46,24 @@ grows xs x e = omega (arith, ap length e, length-append xs (x ∷ []))
 none_failed : (words : List (List ℕ)) (shelf : Change ShelfState) (contents file : List ℕ) → IsTold words shelf contents → shelf.new.failed ≡ shelf.old.failed ++ file ∷ [] → ⊥
 none_failed words shelf contents file t h = grows shelf.old.failed file (sym t.failed ∙ h)
 
--- a file outside the form is refused as such, or memory ran out
-refuses_form : (answer : Answer) (words : List (List ℕ)) (shelf : Change ShelfState) (text contents : List ℕ) → IsTold words shelf contents → length contents ≤ longest → IsNotForm contents → Comes words shelf answer text → (status_of answer ≡ 65) ⊎ (status_of answer ≡ 75)
-refuses_form NotBuilt words shelf text contents t short n h = inl refl
-refuses_form (Memory steps) words shelf text contents t short n h = inr refl
-refuses_form Usage words shelf text contents t short n h = absurd (h.0 (Run t.named.0 t.named.1 t.file) t.named.2)
-refuses_form CannotRead words shelf text contents t short n h = absurd (none_failed words shelf contents h.0 t h.2)
-refuses_form TooLong words shelf text contents t short n h = absurd (omega (arith, ap length (handed_whole words shelf contents h.0 t h.1 short), h.2, short))
-refuses_form Finished words shelf text contents t short n h = absurd (n h.2.literals (subst (λ (b : List ℕ). IsFirstForm b h.2.literals) (handed_whole words shelf contents h.0 t h.1 short) h.2.form))
-refuses_form WriteFault words shelf text contents t short n h = absurd (n h.2.literals (subst (λ (b : List ℕ). IsFirstForm b h.2.literals) (handed_whole words shelf contents h.0 t h.1 short) h.2.form))
+-- a file that is refused is refused so, or memory ran out
+refuses : (answer : Answer) (call : Call) (text contents : List ℕ) (kind : Refusal) (at : ℕ) → IsTold call.words call.shelf contents → length contents ≤ longest → IsRefused contents kind at
+    → Comes call.words call.shelf answer text → Prints answer text call.out → Gained call.err (line_of answer) → ((status_of answer ≡ 65) × SaysOnly call (Refused kind at)) ⊎ (status_of answer ≡ 75)
+refuses (Refused own place) call text contents kind at t short r h p s =
+    let mine : IsRefused contents own place = subst (λ (b : List ℕ). IsRefused b own place) (handed_whole call.words call.shelf contents h.0 t h.1 short) h.3 in
+    let same = one_refusal contents own kind place at mine r in
+    inl (refl, (subst (Gained call.out) h.4 p, subst (λ (a : Answer). Gained call.err (line_of a)) (ap₂ Refused same.0 same.1) s))
+refuses (Memory steps) call text contents kind at t short r h p s = inr refl
+refuses Usage call text contents kind at t short r h p s = absurd (h.0 (Run t.named.0 t.named.1 t.file) t.named.2)
+refuses CannotRead call text contents kind at t short r h p s = absurd (none_failed call.words call.shelf contents h.0 t h.2)
+refuses TooLong call text contents kind at t short r h p s = absurd (omega (arith, ap length (handed_whole call.words call.shelf contents h.0 t h.1 short), h.2, short))
+refuses Finished call text contents kind at t short r h p s = absurd (not_both contents text kind at (subst (λ (b : List ℕ). IsAccepted b text) (handed_whole call.words call.shelf contents h.0 t h.1 short) h.2) r)
+refuses WriteFault call text contents kind at t short r h p s = absurd (not_both contents text kind at (subst (λ (b : List ℕ). IsAccepted b text) (handed_whole call.words call.shelf contents h.0 t h.1 short) h.2) r)
 
-pub not_built_always : (call : Call) → Ran call → NotBuiltAlways call
-not_built_always call r contents t short n = elim r.reports [
-  | inl p ↦ elim (refuses_form r.answer call.words call.shelf r.text contents t short n r.comes) [
-    | inl q ↦ inl (p.0 ∙ q)
+pub refused_always : (call : Call) → Ran call → RefusedAlways call
+refused_always call r contents kind at t short refused = elim r.reports [
+  | inl p ↦ elim (refuses r.answer call r.text contents kind at t short refused r.comes r.prints p.1) [
+    | inl q ↦ inl (p.0 ∙ q.0, q.1)
     | inr q ↦ inr (inl (p.0 ∙ q))
   ]
   | inr p ↦ inr (inr p.2)
@@ -72,7 +75,7 @@ refuses_length TooLong words shelf text contents t long h = inl refl
 refuses_length CannotRead words shelf text contents t long h = inl refl
 refuses_length (Memory steps) words shelf text contents t long h = inr refl
 refuses_length Usage words shelf text contents t long h = absurd (h.0 (Run t.named.0 t.named.1 t.file) t.named.2)
-refuses_length NotBuilt words shelf text contents t long h = absurd (omega (arith, handed_long words shelf contents h.0 t h.1 long, h.2))
+refuses_length (Refused kind at) words shelf text contents t long h = absurd (omega (arith, handed_long words shelf contents h.0 t h.1 long, h.2))
 refuses_length Finished words shelf text contents t long h = absurd (omega (arith, handed_long words shelf contents h.0 t h.1 long, h.2.short))
 refuses_length WriteFault words shelf text contents t long h = absurd (omega (arith, handed_long words shelf contents h.0 t h.1 long, h.2.short))
 
@@ -85,24 +88,22 @@ too_long_always call r contents t long = elim r.reports [
   | inr p ↦ inr (inr p.2)
 ]
 
--- a file of the form is printed, or memory ran out
-prints_form : (answer : Answer) (call : Call) (text contents : List ℕ) (literals : List (List Lit)) → IsTold call.words call.shelf contents → length contents ≤ longest → IsFirstForm contents literals → (Faulted call.out → ⊥) → Comes call.words call.shelf answer text → Prints answer text call.out
-    → ((status_of answer ≡ 0) × Gained call.out (printed literals)) ⊎ ((status_of answer ≡ 75) × Gained call.out [])
-prints_form Usage call text contents literals t short form fine h p = absurd (h.0 (Run t.named.0 t.named.1 t.file) t.named.2)
-prints_form CannotRead call text contents literals t short form fine h p = absurd (none_failed call.words call.shelf contents h.0 t h.2)
-prints_form TooLong call text contents literals t short form fine h p = absurd (omega (arith, ap length (handed_whole call.words call.shelf contents h.0 t h.1 short), h.2, short))
-prints_form NotBuilt call text contents literals t short form fine h p = absurd (h.3 literals (subst (λ (b : List ℕ). IsFirstForm b literals) (sym (handed_whole call.words call.shelf contents h.0 t h.1 short)) form))
-prints_form WriteFault call text contents literals t short form fine h p = absurd (fine p.1)
-prints_form (Memory steps) call text contents literals t short form fine h p = inr (refl, subst (Gained call.out) h.4 p)
-prints_form Finished call text contents literals t short form fine h p =
-    let a = h.2 in
-    let own : IsFirstForm contents a.literals = subst (λ (b : List ℕ). IsFirstForm b a.literals) (handed_whole call.words call.shelf contents h.0 t h.1 short) a.form in
-    let same : a.literals ≡ literals = reads_one_way contents a.literals literals own form in
-    inl (refl, subst (Gained call.out) (a.text_is ∙ ap printed same) p)
+-- the text of an accepted file is printed, or memory ran out
+prints_text : (answer : Answer) (call : Call) (own contents text : List ℕ) → IsTold call.words call.shelf contents → IsAccepted contents text → (Faulted call.out → ⊥) → Comes call.words call.shelf answer own → Prints answer own call.out
+    → ((status_of answer ≡ 0) × Gained call.out text) ⊎ ((status_of answer ≡ 75) × Gained call.out [])
+prints_text Usage call own contents text t a fine h p = absurd (h.0 (Run t.named.0 t.named.1 t.file) t.named.2)
+prints_text CannotRead call own contents text t a fine h p = absurd (none_failed call.words call.shelf contents h.0 t h.2)
+prints_text TooLong call own contents text t a fine h p = absurd (omega (arith, ap length (handed_whole call.words call.shelf contents h.0 t h.1 a.short), h.2, a.short))
+prints_text (Refused kind at) call own contents text t a fine h p = absurd (not_both contents text kind at a (subst (λ (b : List ℕ). IsRefused b kind at) (handed_whole call.words call.shelf contents h.0 t h.1 a.short) h.3))
+prints_text WriteFault call own contents text t a fine h p = absurd (fine p.1)
+prints_text (Memory steps) call own contents text t a fine h p = inr (refl, subst (Gained call.out) h.4 p)
+prints_text Finished call own contents text t a fine h p =
+    let mine : IsAccepted contents own = subst (λ (b : List ℕ). IsAccepted b own) (handed_whole call.words call.shelf contents h.0 t h.1 a.short) h.2 in
+    inl (refl, subst (Gained call.out) (one_text contents own text mine a) p)
 
 pub completes : (call : Call) → Ran call → Completes call
-completes call r contents literals t short form out_fine err_fine = elim r.reports [
-  | inl p ↦ elim (prints_form r.answer call r.text contents literals t short form out_fine r.comes r.prints) [
+completes call r contents text t a out_fine err_fine = elim r.reports [
+  | inl p ↦ elim (prints_text r.answer call r.text contents text t a out_fine r.comes r.prints) [
     | inl q ↦ inl (p.0 ∙ q.0, q.1)
     | inr q ↦ inr (p.0 ∙ q.0, q.1)
   ]

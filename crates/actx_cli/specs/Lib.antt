@@ -4,6 +4,8 @@ pub mod Printed
 pub mod Answers
 pub mod Sinks
 pub mod Calls
+pub mod Accepted
 pub mod Runs
 pub mod Phases
 pub mod Statuses
+pub mod Laws

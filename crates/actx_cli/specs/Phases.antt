@@ -2,9 +2,10 @@
 use Rattle.std.specs.Prelude.{◌≡◌, ℕ, ◌<◌, List, ◌∷◌, [], ◌++◌, length}
 use Rattle.actx_outside.specs.Files.{ShelfState, IsFetched}
 use Rattle.actx_cli.specs.declared.answer.Answer.{Answer}
-use Rattle.actx_cli.specs.declared.answer.Answer.TheVariants.{Finished, Usage, CannotRead, TooLong, NotBuilt, WriteFault, Memory}
+use Rattle.actx_cli.specs.declared.answer.Answer.TheVariants.{Finished, Usage, CannotRead, TooLong, Refused, WriteFault, Memory}
 use Rattle.actx_cli.specs.Calls.{Change}
-use Rattle.actx_cli.specs.Runs.{longest, NoneFailed, IsNotForm}
+use Rattle.actx_cli.specs.Accepted.{longest, IsRefused}
+use Rattle.actx_cli.specs.Runs.{NoneFailed}
 
 -- why there are no bytes of this file
 abbrev pub SourceFails : Change ShelfState → List ℕ → Answer → Type 0
@@ -14,10 +15,10 @@ SourceFails shelf file (Memory steps) = (steps ≡ 0) × NoneFailed shelf
 SourceFails shelf file answer = ⊥
 
 -- why these bytes print nothing
-abbrev pub FormFails : List ℕ → Answer → Type 0
-FormFails bytes NotBuilt = IsNotForm bytes
-FormFails bytes (Memory steps) = steps ≡ 0
-FormFails bytes answer = ⊥
+abbrev pub ReadingFails : List ℕ → Answer → Type 0
+ReadingFails bytes (Refused kind at) = IsRefused bytes kind at
+ReadingFails bytes (Memory steps) = steps ≡ 0
+ReadingFails bytes answer = ⊥
 
 -- an answer under which nothing is due on standard output
 abbrev pub IsRefusal : Answer → Type 0

@@ -4,19 +4,13 @@ use Rattle.std.specs.Io.KnownBytes.{Appends}
 use Rattle.actx_outside.specs.Causes.{Rose}
 use Rattle.actx_outside.specs.Files.{ShelfState, IsFetched}
 use Rattle.actx_outside.specs.Streams.{SinkState}
-use Rattle.actx_parse.specs.FirstForm.{IsFirstForm}
-use Rattle.actx_parse.specs.declared.lit.Lit.{Lit}
 use Rattle.actx_cli.specs.declared.answer.Answer.{Answer}
-use Rattle.actx_cli.specs.declared.answer.Answer.TheVariants.{Finished, Usage, CannotRead, TooLong, NotBuilt, WriteFault, Memory}
+use Rattle.actx_cli.specs.declared.answer.Answer.TheVariants.{Finished, Usage, CannotRead, TooLong, Refused, WriteFault, Memory}
 use Rattle.actx_cli.specs.Words.{Names, IsNoCommand}
-use Rattle.actx_cli.specs.Printed.{printed}
+use Rattle.actx_cli.specs.Accepted.{longest, IsAccepted, IsRefused}
 use Rattle.actx_cli.specs.Answers.{status_of, line_of}
 use Rattle.actx_cli.specs.Sinks.{AppendsFront}
 use Rattle.actx_cli.specs.Calls.{Change, Call}
-
--- the most bytes that a file may have
-abbrev pub longest : ℕ
-longest = 1048576
 
 -- no name failed in the call
 abbrev pub NoneFailed : Change ShelfState → Type 0
@@ -29,23 +23,12 @@ pub record IsHanded (words : List (List ℕ)) (shelf : Change ShelfState) (bytes
   pub fetched : IsFetched shelf.old.files file longest bytes
   pub failed : NoneFailed shelf
 
--- bytes that are no file of the first form
-abbrev pub IsNotForm : List ℕ → Type 0
-IsNotForm bytes = (literals : List (List Lit)) → IsFirstForm bytes literals → ⊥
-
--- these bytes are a file that prints this text
-pub record IsAccepted (bytes text : List ℕ) : Type 0 where
-  pub short : length bytes ≤ longest
-  pub literals : List (List Lit)
-  pub form : IsFirstForm bytes literals
-  pub text_is : text ≡ printed literals
-
 -- where each answer comes, and the text that is due on standard output then
 abbrev pub Comes : List (List ℕ) → Change ShelfState → Answer → List ℕ → Type 0
 Comes words shelf Usage text = IsNoCommand words × NoneFailed shelf × (text ≡ [])
 Comes words shelf CannotRead text = (file : List ℕ) × Names words file × (shelf.new.failed ≡ shelf.old.failed ++ file ∷ []) × (text ≡ [])
 Comes words shelf TooLong text = (bytes : List ℕ) × IsHanded words shelf bytes × (longest < length bytes) × (text ≡ [])
-Comes words shelf NotBuilt text = (bytes : List ℕ) × IsHanded words shelf bytes × (length bytes ≤ longest) × IsNotForm bytes × (text ≡ [])
+Comes words shelf (Refused kind at) text = (bytes : List ℕ) × IsHanded words shelf bytes × (length bytes ≤ longest) × IsRefused bytes kind at × (text ≡ [])
 Comes words shelf Finished text = (bytes : List ℕ) × IsHanded words shelf bytes × IsAccepted bytes text
 Comes words shelf WriteFault text = (bytes : List ℕ) × IsHanded words shelf bytes × IsAccepted bytes text
 Comes words shelf (Memory steps) text = (file : List ℕ) × Names words file × NoneFailed shelf × (steps ≡ 0) × (text ≡ [])

@@ -4,15 +4,14 @@ use Rattle.std.specs.Io.KnownBytes.{Appends}
 use Rattle.actx_outside.specs.Causes.{Rose}
 use Rattle.actx_outside.specs.Files.{ShelfState, contents_of}
 use Rattle.actx_outside.specs.Streams.{SinkState}
-use Rattle.actx_parse.specs.FirstForm.{IsFirstForm}
-use Rattle.actx_parse.specs.declared.lit.Lit.{Lit}
 use Rattle.actx_cli.specs.declared.answer.Answer.{Answer}
-use Rattle.actx_cli.specs.declared.answer.Answer.TheVariants.{Usage, CannotRead, TooLong, NotBuilt, Memory}
+use Rattle.actx_cli.specs.declared.answer.Answer.TheVariants.{Usage, CannotRead, TooLong, Refused, Memory}
+use Rattle.actx_cli.specs.declared.answer.Refusal.{Refusal}
 use Rattle.actx_cli.specs.Words.{Names, IsNoCommand}
-use Rattle.actx_cli.specs.Printed.{printed}
 use Rattle.actx_cli.specs.Answers.{line_of}
 use Rattle.actx_cli.specs.Calls.{Change, Call}
-use Rattle.actx_cli.specs.Runs.{longest, NoneFailed, IsHanded, IsNotForm, IsAccepted}
+use Rattle.actx_cli.specs.Accepted.{longest, IsAccepted, IsRefused}
+use Rattle.actx_cli.specs.Runs.{NoneFailed, IsHanded}
 
 -- a stream gained these bytes and no others
 abbrev pub Gained : Change SinkState → List ℕ → Type 0
@@ -46,12 +45,12 @@ UsageOnly call = call.status ≡ 64 → IsNoCommand call.words × NoneFailed cal
 abbrev pub UsageAlways : Call → Type 0
 UsageAlways call = IsNoCommand call.words → (call.status ≡ 64) ⊎ Faulted call.err
 
--- 65: the file that was handed over is no list of printing statements
-abbrev pub NotBuiltOnly : Call → Type 0
-NotBuiltOnly call = call.status ≡ 65 → (bytes : List ℕ) × IsHanded call.words call.shelf bytes × (length bytes ≤ longest) × IsNotForm bytes × SaysOnly call NotBuilt
+-- 65: the file that was handed over is refused, for the reason and at the place that the line says
+abbrev pub RefusedOnly : Call → Type 0
+RefusedOnly call = call.status ≡ 65 → (bytes : List ℕ) × (kind : Refusal) × (at : ℕ) × IsHanded call.words call.shelf bytes × (length bytes ≤ longest) × IsRefused bytes kind at × SaysOnly call (Refused kind at)
 
-abbrev pub NotBuiltAlways : Call → Type 0
-NotBuiltAlways call = (contents : List ℕ) → IsTold call.words call.shelf contents → length contents ≤ longest → IsNotForm contents → (call.status ≡ 65) ⊎ (call.status ≡ 75) ⊎ Faulted call.err
+abbrev pub RefusedAlways : Call → Type 0
+RefusedAlways call = (contents : List ℕ) (kind : Refusal) (at : ℕ) → IsTold call.words call.shelf contents → length contents ≤ longest → IsRefused contents kind at → ((call.status ≡ 65) × SaysOnly call (Refused kind at)) ⊎ (call.status ≡ 75) ⊎ Faulted call.err
 
 -- 66: the shelf's list of failed names gained the name in the words, or the file is too long
 abbrev pub IsUnread : Call → Type 0
@@ -78,7 +77,7 @@ MemoryOnly call = call.status ≡ 75 → NoneFailed call.shelf × SaysOnly call 
 abbrev pub OneOfSix : Call → Type 0
 OneOfSix call = (call.status ≡ 0) ⊎ (call.status ≡ 64) ⊎ (call.status ≡ 65) ⊎ (call.status ≡ 66) ⊎ (call.status ≡ 74) ⊎ (call.status ≡ 75)
 
--- where nothing outside stands in the way, a file of the form is printed whole, unless memory runs out before anything is
+-- where nothing outside stands in the way, the text of an accepted file is printed whole, unless memory runs out before anything is
 abbrev pub Completes : Call → Type 0
-Completes call = (contents : List ℕ) (literals : List (List Lit)) → IsTold call.words call.shelf contents → length contents ≤ longest → IsFirstForm contents literals → (Faulted call.out → ⊥) → (Faulted call.err → ⊥)
-    → ((call.status ≡ 0) × Gained call.out (printed literals)) ⊎ ((call.status ≡ 75) × Gained call.out [])
+Completes call = (contents text : List ℕ) → IsTold call.words call.shelf contents → IsAccepted contents text → (Faulted call.out → ⊥) → (Faulted call.err → ⊥)
+    → ((call.status ≡ 0) × Gained call.out text) ⊎ ((call.status ≡ 75) × Gained call.out [])

@@ -1,5 +1,16 @@
 //! How a call ends.
 
+/// Why a file is refused before its run. Each kind has its word in the error line.
+#[derive(Clone, Copy, Debug, PartialEq, Eq)]
+pub enum Refusal {
+    /// The bytes aren't UTF-8. The place is that of a byte.
+    Utf8,
+    /// The text has no token list. The place is that of a unit.
+    Token,
+    /// The file needs more of the language than is built. The place is 0.
+    NotBuilt,
+}
+
 /// How a call ends. Its status and its line on standard error are functions of it.
 #[derive(Clone, Copy, Debug, PartialEq, Eq)]
 pub enum Answer {
@@ -11,8 +22,8 @@ pub enum Answer {
     CannotRead,
     /// A file has more than 1,048,576 bytes.
     TooLong,
-    /// The file needs more of the language than is built.
-    NotBuilt,
+    /// The file is refused, for this reason and at this place.
+    Refused { kind: Refusal, at: usize },
     /// A write to standard output failed.
     WriteFault,
     /// Memory ran out after this many moves of the run.

@@ -2,14 +2,17 @@
 #![tactic(auto)]
 
 mod answer;
+mod laws;
 mod pieces;
 mod prepare;
+mod reading;
 mod report;
 mod sinks;
 mod top;
 mod words;
 
-pub use answer::Answer;
+pub use answer::{Answer, Refusal};
+pub use laws::{not_both, one_refusal, one_text};
 pub use top::actx;
 pub use words::{Feed, Usage, Words, read_words};
 

@@ -5,14 +5,14 @@ ghost use Rattle.std.specs.List.{flat_map};
 ghost use Rattle.actx_outside.specs.Files.{IsFetched};
 ghost use Rattle.actx_cli.specs.Words.{texts};
 ghost use Rattle.actx_cli.specs.Calls.{from_to};
-ghost use Rattle.actx_cli.specs.Runs.{longest, NoneFailed, Comes, IsAccepted};
-ghost use Rattle.actx_cli.specs.Phases.{IsRefusal, SourceFails, FormFails};
+ghost use Rattle.actx_cli.specs.Accepted.{longest};
+ghost use Rattle.actx_cli.specs.Runs.{NoneFailed, Comes};
+ghost use Rattle.actx_cli.specs.Phases.{IsRefusal, SourceFails};
 
 use crate::answer::Answer;
-use crate::pieces::pieces;
+use crate::reading::reading;
 use crate::words::file_named;
 use actx_outside::{Shelf, ShelfError};
-use actx_parse::{FirstError, first_form};
 use std::alloc::Global;
 
 // The most bytes that a file may have.
@@ -37,25 +37,6 @@ fn source<F: Shelf>(alloc: Global, shelf: &mut F, file: &str) -> Result<Vec<u8>,
     }
 }
 
-// The pieces that the bytes of a file print: a line for each statement. All are made before the first
-// is written, so that want of memory leaves nothing half said.
-fn printing(alloc: Global, bytes: &[u8]) -> Result<Vec<Vec<u8>>, Answer>
-    requires { length bytes.now ≤ longest }
-    ensures { MatchResult result
-        (λ found. IsAccepted bytes.now (flat_map (λ piece. piece.items) found.items))
-        (λ e. FormFails bytes.now e) }
-{
-    let all = match first_form(alloc, bytes) {
-        Ok(all) => all,
-        Err(FirstError::NotBuilt) => return Err(Answer::NotBuilt),
-        Err(FirstError::Memory) => return Err(Answer::Memory { steps: 0 }),
-    };
-    match pieces(alloc, &all) {
-        Ok(found) => Ok(found),
-        Err(_) => Err(Answer::Memory { steps: 0 }),
-    }
-}
-
 /// The pieces that a call is to write, or its refusal.
 pub fn prepare<F: Shelf>(
     alloc: Global,
@@ -70,5 +51,5 @@ pub fn prepare<F: Shelf>(
         return Err(Answer::Usage);
     };
     let bytes = source(alloc, shelf, file)?;
-    printing(alloc, &bytes)
+    reading(alloc, &bytes)
 }

@@ -3,7 +3,7 @@
 ghost use Rattle.std.specs.Prelude.{◌≡◌, List, ℕ};
 ghost use Rattle.actx_cli.specs.Calls.{call_of, from_to};
 ghost use Rattle.actx_cli.specs.Runs.{Comes, Prints, Ran};
-ghost use Rattle.actx_cli.specs.Statuses.{FinishedOnly, UsageOnly, UsageAlways, NotBuiltOnly, NotBuiltAlways, NoFileOnly, TooLongAlways, WriteFaultOnly, MemoryOnly, OneOfSix, Completes};
+ghost use Rattle.actx_cli.specs.Statuses.{FinishedOnly, UsageOnly, UsageAlways, RefusedOnly, RefusedAlways, NoFileOnly, TooLongAlways, WriteFaultOnly, MemoryOnly, OneOfSix, Completes};
 ghost use Rattle.actx_cli.specs.Words.{texts};
 
 use crate::answer::Answer;
@@ -62,9 +62,9 @@ pub fn actx<F: Shelf, O: Sink, E: Sink, T: Tape>(
     // 64: exactly where the words are no command line, unless the report fails.
     ensures usage { UsageOnly (call_of (texts words.now) (F.state shelf.old) (F.state shelf.new) (O.state out.old) (O.state out.new) (E.state err.old) (E.state err.new) result) }
     ensures usage_always { UsageAlways (call_of (texts words.now) (F.state shelf.old) (F.state shelf.new) (O.state out.old) (O.state out.new) (E.state err.old) (E.state err.new) result) }
-    // 65: exactly where the file is no list of printing statements, unless the report fails or memory runs out.
-    ensures not_built { NotBuiltOnly (call_of (texts words.now) (F.state shelf.old) (F.state shelf.new) (O.state out.old) (O.state out.new) (E.state err.old) (E.state err.new) result) }
-    ensures not_built_always { NotBuiltAlways (call_of (texts words.now) (F.state shelf.old) (F.state shelf.new) (O.state out.old) (O.state out.new) (E.state err.old) (E.state err.new) result) }
+    // 65: exactly where the file is refused, for the reason and at the place of the line, unless the report fails or memory runs out.
+    ensures refused { RefusedOnly (call_of (texts words.now) (F.state shelf.old) (F.state shelf.new) (O.state out.old) (O.state out.new) (E.state err.old) (E.state err.new) result) }
+    ensures refused_always { RefusedAlways (call_of (texts words.now) (F.state shelf.old) (F.state shelf.new) (O.state out.old) (O.state out.new) (E.state err.old) (E.state err.new) result) }
     // 66: only where the name failed; exactly where the file is too long, unless the report fails or memory runs out.
     ensures no_file { NoFileOnly (call_of (texts words.now) (F.state shelf.old) (F.state shelf.new) (O.state out.old) (O.state out.new) (E.state err.old) (E.state err.new) result) }
     ensures too_long_always { TooLongAlways (call_of (texts words.now) (F.state shelf.old) (F.state shelf.new) (O.state out.old) (O.state out.new) (E.state err.old) (E.state err.new) result) }
@@ -74,7 +74,7 @@ pub fn actx<F: Shelf, O: Sink, E: Sink, T: Tape>(
     ensures memory { MemoryOnly (call_of (texts words.now) (F.state shelf.old) (F.state shelf.new) (O.state out.old) (O.state out.new) (E.state err.old) (E.state err.new) result) }
     // There is no other status.
     ensures statuses { OneOfSix (call_of (texts words.now) (F.state shelf.old) (F.state shelf.new) (O.state out.old) (O.state out.new) (E.state err.old) (E.state err.new) result) }
-    // Where nothing outside stands in the way, a file of the form is printed whole, unless memory runs out.
+    // Where nothing outside stands in the way, the text of an accepted file is printed whole, unless memory runs out.
     ensures complete { Completes (call_of (texts words.now) (F.state shelf.old) (F.state shelf.new) (O.state out.old) (O.state out.new) (E.state err.old) (E.state err.new) result) }
     // No file that can be read yet asks the tape.
     ensures tape { tape.new ≡ tape.old }

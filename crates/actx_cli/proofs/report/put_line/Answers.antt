@@ -3,9 +3,6 @@ use Rattle.actx_cli.proofs.report.put_line.Goals as goal
 pub returns-in-Usage : goal.returns-in-Usage
 returns-in-Usage g c = rw c.in-Usage.is c.put.ensures
 
-pub returns-in-NotBuilt : goal.returns-in-NotBuilt
-returns-in-NotBuilt g c = rw c.in-NotBuilt.is c.put-in-NotBuilt.ensures
-
 pub returns-in-CannotRead : goal.returns-in-CannotRead
 returns-in-CannotRead g c = rw c.in-CannotRead.is c.put-in-CannotRead.ensures
 

@@ -1,5 +1,5 @@
-use Rattle.actx_cli.proofs.Statuses.{finished_only, usage_only, usage_always, not_built_only, no_file_only, write_fault_only, memory_only, one_of_six}
-use Rattle.actx_cli.proofs.Told.{not_built_always, too_long_always, completes}
+use Rattle.actx_cli.proofs.Statuses.{finished_only, usage_only, usage_always, refused_only, no_file_only, write_fault_only, memory_only, one_of_six}
+use Rattle.actx_cli.proofs.Told.{refused_always, too_long_always, completes}
 use Rattle.actx_cli.proofs.top.actx.Goals as goal
 
 pub returns-clause-finished : goal.returns-clause-finished
@@ -11,11 +11,11 @@ returns-clause-usage g c = usage_only _ c.session.ensures
 pub returns-clause-usage_always : goal.returns-clause-usage_always
 returns-clause-usage_always g c = usage_always _ c.session.ensures
 
-pub returns-clause-not_built : goal.returns-clause-not_built
-returns-clause-not_built g c = not_built_only _ c.session.ensures
+pub returns-clause-refused : goal.returns-clause-refused
+returns-clause-refused g c = refused_only _ c.session.ensures
 
-pub returns-clause-not_built_always : goal.returns-clause-not_built_always
-returns-clause-not_built_always g c = not_built_always _ c.session.ensures
+pub returns-clause-refused_always : goal.returns-clause-refused_always
+returns-clause-refused_always g c = refused_always _ c.session.ensures
 
 pub returns-clause-no_file : goal.returns-clause-no_file
 returns-clause-no_file g c = no_file_only _ c.session.ensures

@@ -1,5 +1,5 @@
 -- A file is accepted or meets one refusal, and not both.
-use Rattle.std.proofs.Common.{◌≡◌, ℕ, ◌≤◌, List, refl, sym, ap, subst, ◌∙◌, arith}
+use Rattle.std.proofs.Common.{◌≡◌, ℕ, List, refl, sym, ap, subst, ◌∙◌, arith}
 use Rattle.actx_text.specs.Texts.{IsTextOf}
 use Rattle.actx_text.specs.Utf8.{IsFirstIllFormed}
 use Rattle.actx_text.proofs.Utf8Lemmas.{not_utf8, same_place}

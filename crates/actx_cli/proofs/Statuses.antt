@@ -1,6 +1,5 @@
 -- When each status comes, from the record of a call.
-use Rattle.std.proofs.Common.{◌≡◌, ◌⊎◌, inl, inr, ℕ, ◌≤◌, ◌<◌, List, [], ◌∷◌, ◌++◌, refl, sym, ap, subst, ◌∙◌, arith}
-use Rattle.std.specs.Io.KnownBytes.{Appends}
+use Rattle.std.proofs.Common.{◌≡◌, ◌⊎◌, inl, inr, ℕ, List, refl, sym, ap, subst, ◌∙◌, arith}
 use Rattle.actx_outside.specs.Files.{ShelfState}
 use Rattle.actx_outside.specs.Streams.{SinkState}
 use Rattle.actx_cli.specs.declared.answer.Answer.{Answer}
@@ -9,7 +8,7 @@ use Rattle.actx_cli.specs.Words.{Run, Names, IsNoCommand}
 use Rattle.actx_cli.specs.Answers.{status_of, line_of}
 use Rattle.actx_cli.specs.Calls.{Change, Call}
 use Rattle.actx_cli.specs.Runs.{Comes, Prints, Reports, Ran}
-use Rattle.actx_cli.specs.Statuses.{Gained, SaysOnly, Faulted, FinishedOnly, UsageOnly, UsageAlways, RefusedOnly, NoFileOnly, IsUnread, IsTooLong, WriteFaultOnly, MemoryOnly, OneOfSix}
+use Rattle.actx_cli.specs.Statuses.{Gained, Faulted, FinishedOnly, UsageOnly, UsageAlways, RefusedOnly, NoFileOnly, WriteFaultOnly, MemoryOnly, OneOfSix}
 
 no_name : {words : List (List ℕ)} {file : List ℕ} → IsNoCommand words → Names words file → ⊥
 no_name {file = file} none named = none (Run named.0 named.1 file) named.2

@@ -1,9 +1,7 @@
 -- What a call comes to over a shelf that tells its files.
 use Rattle.std.proofs.Common.{◌≡◌, ◌⊎◌, inl, inr, ℕ, ◌+◌, ◌≤◌, ◌<◌, List, [], ◌∷◌, ◌++◌, length, take, Option, Some, refl, sym, ap, ap₂, subst, ◌∙◌, arith, length-append, length-take}
 use Rattle.std.proofs.lemmas.List.{take_all}
-use Rattle.std.specs.Io.KnownBytes.{Appends}
-use Rattle.actx_outside.specs.Files.{ShelfState, IsFetched, IsFront, contents_of}
-use Rattle.actx_outside.specs.Streams.{SinkState}
+use Rattle.actx_outside.specs.Files.{ShelfState, IsFetched, IsFront}
 use Rattle.actx_cli.specs.declared.answer.Answer.{Answer}
 use Rattle.actx_cli.specs.declared.answer.Answer.TheVariants.{Finished, Usage, CannotRead, TooLong, Refused, WriteFault, Memory}
 use Rattle.actx_cli.specs.Words.{Run, Feed, Given, Names, IsCommand, run_word}

@@ -2,7 +2,7 @@
 use Rattle.std.specs.Prelude.{◌≡◌, ℕ, ◌<◌, List, ◌∷◌, [], ◌++◌, length}
 use Rattle.actx_outside.specs.Files.{ShelfState, IsFetched}
 use Rattle.actx_cli.specs.declared.answer.Answer.{Answer}
-use Rattle.actx_cli.specs.declared.answer.Answer.TheVariants.{Finished, Usage, CannotRead, TooLong, Refused, WriteFault, Memory}
+use Rattle.actx_cli.specs.declared.answer.Answer.TheVariants.{Finished, CannotRead, TooLong, Refused, WriteFault, Memory}
 use Rattle.actx_cli.specs.Calls.{Change}
 use Rattle.actx_cli.specs.Accepted.{longest, IsRefused}
 use Rattle.actx_cli.specs.Runs.{NoneFailed}

@@ -1,5 +1,5 @@
 -- When each status comes. "Only" says what holds wherever it comes, "Always" where it has to come.
-use Rattle.std.specs.Prelude.{◌≡◌, ℕ, ◌≤◌, ◌<◌, List, [], ◌∷◌, ◌++◌, length, Option, Some, ◌⊎◌}
+use Rattle.std.specs.Prelude.{◌≡◌, ℕ, ◌≤◌, ◌<◌, List, [], ◌∷◌, ◌++◌, length, Some, ◌⊎◌}
 use Rattle.std.specs.Io.KnownBytes.{Appends}
 use Rattle.actx_outside.specs.Causes.{Rose}
 use Rattle.actx_outside.specs.Files.{ShelfState, contents_of}

@@ -107,20 +107,20 @@ fn files_that_print(rt: HostRuntime) -> Result<(), Fail> {
 }
 
 #[test]
-fn files_that_are_not_built(rt: HostRuntime) -> Result<(), Fail> {
-    for file in [
-        b"console.log(9007199254740992);".as_slice(),
-        b"\xC3",
-        b"console.log(1)",
-        b"console.log(1 + 1);",
+fn files_that_are_refused(rt: HostRuntime) -> Result<(), Fail> {
+    for (file, err) in [
+        (b"\xC3".as_slice(), b"actx: refused utf8 at 0\n".as_slice()),
+        (b"console.log('\xE2\x82');", b"actx: refused utf8 at 13\n"),
+        (
+            b"console.log(9007199254740992);",
+            b"actx: refused token at 12\n",
+        ),
+        (b"\xC3\xA9 @", b"actx: refused token at 2\n"),
+        (b"console.log(1)", b"actx: refused notbuilt at 0\n"),
+        (b"console.log(1 + 1);", b"actx: refused notbuilt at 0\n"),
+        (b"let a;", b"actx: refused notbuilt at 0\n"),
     ] {
-        check(
-            &rt,
-            &Case { file, ..RUN },
-            65,
-            b"",
-            b"actx: refused notbuilt at 0\n",
-        )?;
+        check(&rt, &Case { file, ..RUN }, 65, b"", err)?;
     }
     Ok(())
 }

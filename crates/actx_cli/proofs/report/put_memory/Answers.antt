@@ -1,7 +1,5 @@
-use Rattle.std.proofs.Common.{◌≡◌, ◌++◌, ◌∷◌, [], ℕ, List, subst, sym, ap, ◌∙◌, codes}
+use Rattle.std.proofs.Common.{◌≡◌, sym, ◌∙◌}
 use Rattle.std.specs.Fmt.{decimal}
-use Rattle.actx_cli.specs.Answers.{line_feed}
-use Rattle.actx_cli.specs.Sinks.{Puts}
 use Rattle.actx_cli.proofs.report.put_memory.Goals as goal
 
 pub returns : goal.returns

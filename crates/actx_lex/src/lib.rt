@@ -7,6 +7,8 @@ mod element;
 mod laws;
 mod lex;
 mod reserved;
+#[cfg(test)]
+mod tests;
 mod token;
 mod unit;
 

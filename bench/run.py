@@ -1,53 +1,67 @@
 #!/usr/bin/env python3
-"""Measures the built program, in ratios: a figure at one size against the same at half the size.
+"""Measures the built program, in ratios: a figure at one size against itself at another.
 
 usage: bench/run.py [PROGRAM]      PROGRAM is crates/actx/out/actx if not given
 
-Each line: what was measured, the sizes, the time and the peak of memory at the larger size, and the ratio of the
-times. In proportion is a ratio near 2. Times are the least of three runs.
+Each line: what was measured, the two sizes in bytes, the time and the peak of memory at the larger one, and the ratio of
+the times per byte, which is near 1 where time is in proportion to size. Times are the least of five runs.
 """
 import os, subprocess, sys, tempfile, time
 
 TOP = os.path.dirname(os.path.dirname(os.path.abspath(__file__)))
+KIB = 1 << 10
+
+PRINTING = b"console.log('row', 12345);\n"
+
+# Names, numbers, texts, templates, comments and many signs: tokens of every kind, and no printing statement.
+MIXED = """const handle = async (request, { id = 0x, name }) => { // one request
+  if (request?.tries >= 10 && !request.done || id !== 7) return `${name}: ${id + 1} of ${"all"}`;
+  /* a comment
+     of two lines */ total += items[k] * 3 - (left - right) % 12; größe = '\\u0041\\n';
+};
+""".replace('0x', '0').encode()
 
 
-def literals(size):
-    """Printing statements of about 26 bytes each, up to `size` bytes."""
-    line = b"console.log('row', 12345);\n"
-    return line * (size // len(line))
+def repeated(line):
+    """Files of one piece of text, again and again, up to a size."""
+    return lambda size: line * (size // len(line))
 
 
-def once(program, words, folder):
+def once(program, folder, expected):
     """The time of one run in seconds, and its peak of memory in KiB."""
     with open(os.path.join(folder, 'out'), 'wb') as out:
         start = time.perf_counter()
-        child = subprocess.Popen([program] + words, cwd=folder, stdout=out, stderr=subprocess.PIPE)
+        child = subprocess.Popen([program, 'run', 'f.js'], cwd=folder, stdout=out, stderr=subprocess.PIPE)
         _, status, used = os.wait4(child.pid, 0)
         took = time.perf_counter() - start
-    line = child.stderr.read().decode()
-    if os.waitstatus_to_exitcode(status) != 0:
-        sys.exit(f'{words}: status {os.waitstatus_to_exitcode(status)}: {line}')
+    line, status = child.stderr.read().decode(), os.waitstatus_to_exitcode(status)
+    if status != expected:
+        sys.exit(f'status {status}, expected {expected}: {line}')
     return took, used.ru_maxrss
 
 
-def measure(program, name, make, sizes):
-    """One line: `make(size)` is the file that is run."""
+def measure(program, name, make, sizes, expected):
+    """One line: `make(size)` is the file that is run, and `expected` the status."""
     best = []
     with tempfile.TemporaryDirectory() as folder:
         for size in sizes:
+            content = make(size)
             with open(os.path.join(folder, 'f.js'), 'wb') as file:
-                file.write(make(size))
-            runs = [once(program, ['run', 'f.js'], folder) for _ in range(3)]
-            best.append((min(t for t, _ in runs), max(m for _, m in runs)))
-    (small, _), (large, memory) = best
-    print(f'{name}: {sizes[0]} and {sizes[1]} bytes: {large:.3f} s, {memory / 1024:.1f} MiB, ratio {large / small:.2f}')
+                file.write(content)
+            runs = [once(program, folder, expected) for _ in range(5)]
+            best.append((len(content), min(t for t, _ in runs), max(m for _, m in runs)))
+    (small, early, _), (large, late, memory) = best
+    ratio = (late / large) / (early / small)
+    print(f'{name}: {small} and {large} bytes: {late:.3f} s, {memory / 1024:.1f} MiB, ratio per byte {ratio:.2f}')
 
 
 def main():
     program = os.path.abspath(sys.argv[1]) if len(sys.argv) > 1 else os.path.join(TOP, 'crates/actx/out/actx')
     if not os.path.exists(program):
         sys.exit('no program: run bin/actx once')
-    measure(program, 'printing statements', literals, (1 << 19, 1 << 20))
+    measure(program, 'printing statements', repeated(PRINTING), (512 * KIB, 1024 * KIB), 0)
+    # The tokens of a file that is read whole and then refused as not built.
+    measure(program, 'tokens', repeated(MIXED), (256 * KIB, 1024 * KIB), 65)
 
 
 if __name__ == '__main__':

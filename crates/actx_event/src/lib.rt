@@ -1,0 +1,11 @@
+//! Events of a run, and what they say of each read: brackets, the causal walk, the nearest
+//! binding, the mappings that are carried from event to event, and which logs are valid.
+#![tactic(auto)]
+
+mod bracket;
+mod event;
+mod value;
+
+pub use bracket::{Bracket, Open};
+pub use event::{AsyncId, Event, SnapId, VarId, VarKind};
+pub use value::Shown;

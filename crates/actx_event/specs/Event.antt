@@ -1,6 +1,6 @@
 -- What each kind of event makes, names, opens, closes and says. An event that has no part in a
 -- question answers None.
-use Rattle.std.specs.Prelude.{ℕ, ◌==◌, Bool, false, Option, Some, None, if◌then◌else◌}
+use Rattle.std.specs.Prelude.{ℕ, ◌==◌, Bool, false, Option, Some, None, is_some, if◌then◌else◌}
 use Rattle.actx_event.specs.declared.value.Shown.{Shown}
 use Rattle.actx_event.specs.declared.event.VarKind.{VarKind}
 use Rattle.actx_event.specs.declared.event.Event.{Event}
@@ -48,6 +48,19 @@ abbrev pub binding_made : Event → Option Binding
 binding_made (Bind id value) = Some (record { variable = id.0; value = value })
 binding_made (Set id value) = Some (record { variable = id.0; value = value })
 binding_made _ = None
+
+-- the value that a binding gives v
+abbrev pub value_given : ℕ → Option Binding → Option Shown
+value_given v None = None
+value_given v (Some b) = if v == b.variable then Some b.value else None
+
+-- the value that it binds v to
+abbrev pub value_bound : ℕ → Event → Option Shown
+value_bound v e = value_given v (binding_made e)
+
+-- whether it binds v
+abbrev pub binds : ℕ → Event → Bool
+binds v e = is_some (value_bound v e)
 
 -- the variable that it switches off (`disable` of AsyncLocalStorage)
 abbrev pub switched_off : Event → Option ℕ

@@ -5,3 +5,6 @@ pub mod Brackets
 pub mod Execution
 pub mod Walk
 pub mod Mappings
+pub mod Agreement
+pub mod Numbers
+pub mod Valid

@@ -3,12 +3,12 @@
 -- a closed run what came before it (links and causes after Loring, Marron and Leijen, "Semantics of
 -- Asynchronous JavaScript", 2017; the mapping of the AsyncContext proposal, AsyncContextSnapshot and
 -- AsyncContextSwap).
-use Rattle.std.specs.Prelude.{ℕ, zero, suc, ◌==◌, Bool, List, [], ◌∷◌, length, Option, Some, None, is_some, unwrap_or, if◌then◌else◌}
+use Rattle.std.specs.Prelude.{ℕ, zero, suc, ◌==◌, Bool, List, [], ◌∷◌, length, Option, Some, None, unwrap_or, if◌then◌else◌}
 use Rattle.actx_event.specs.declared.value.Shown.{Shown}
 use Rattle.actx_event.specs.declared.value.Shown.TheVariants.{Undefined}
 use Rattle.actx_event.specs.declared.event.Event.{Event}
 use Rattle.actx_event.specs.declared.event.Event.TheVariants.{Before, Enter}
-use Rattle.actx_event.specs.Event.{Binding, Declaration, is_number, resource_made, capture_made, closed_bracket, binding_made, switched_off, declaration_said}
+use Rattle.actx_event.specs.Event.{Declaration, is_number, resource_made, capture_made, closed_bracket, value_bound, binds, switched_off, declaration_said}
 use Rattle.actx_event.specs.Front.{Front, place_before, first_said}
 use Rattle.actx_event.specs.Brackets.{opened, before_opener}
 
@@ -29,16 +29,16 @@ pub record Met : Type 0 where
   pub value : Shown
   pub place : Front
 
--- the binding that an event makes of variable v
-abbrev pub met_here : ℕ → Option Binding → Front → Option Met → Option Met
-met_here v None es later = later
-met_here v (Some b) es later = if v == b.variable then Some (record { value = b.value; place = es }) else later
+-- the value that an event binds the variable to is met at the event, and else later on the walk
+abbrev pub met_here : Option Shown → Front → Option Met → Option Met
+met_here None es later = later
+met_here (Some x) es later = Some (record { value = x; place = es })
 
 -- the first binding of v that at most n steps of the walk look at
 abbrev pub met_within : ℕ → Front → ℕ → Option Met
 met_within zero es v = None
 met_within (suc n) [] v = None
-met_within (suc n) (e ∷ es) v = met_here v (binding_made e) es (met_within n (causal_step (e ∷ es)) v)
+met_within (suc n) (e ∷ es) v = met_here (value_bound v e) es (met_within n (causal_step (e ∷ es)) v)
 
 -- the first binding of v that the walk looks at; each step goes to a smaller place, so as many steps
 -- as there are events are enough
@@ -77,7 +77,7 @@ nearest_binding es v = met_value (met_binding es v) v es
 abbrev pub walk_within : ℕ → Front → ℕ → List Front
 walk_within zero es v = []
 walk_within (suc n) [] v = []
-walk_within (suc n) (e ∷ es) v = es ∷ (if is_some (met_here v (binding_made e) es None) then [] else walk_within n (causal_step (e ∷ es)) v)
+walk_within (suc n) (e ∷ es) v = es ∷ (if binds v e then [] else walk_within n (causal_step (e ∷ es)) v)
 
 -- the chain of a read of v at a place
 unfoldable pub chain : Front → ℕ → List Front

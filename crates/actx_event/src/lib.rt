@@ -4,8 +4,10 @@
 
 mod bracket;
 mod event;
+mod valid;
 mod value;
 
 pub use bracket::{Bracket, Open};
 pub use event::{AsyncId, Event, SnapId, VarId, VarKind};
+pub use valid::{Failure, Rule};
 pub use value::Shown;

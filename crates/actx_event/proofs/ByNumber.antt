@@ -1,10 +1,12 @@
 -- Places by number are places as fronts: the step.
-use Rattle.std.proofs.Common.{◌≡◌, ℕ, zero, suc, ◌<◌, ◌≤◌, ◌==◌, Bool, true, false, List, [], ◌∷◌, ◌++◌, length, take, reverse, Option, Some, None, option_to_list, if◌then◌else◌, refl, sym, ap, ◌∙◌, subst, arith, length-take-le}
+use Rattle.std.proofs.Common.{◌≡◌, ℕ, zero, suc, ◌<◌, ◌≤◌, ◌==◌, Bool, true, false, List, [], ◌∷◌, ◌++◌, length, map, take, reverse, Option, Some, None, option_to_list, if◌then◌else◌, refl, sym, ap, ap₂, ◌∙◌, subst, arith, length-take-le}
 use Rattle.std.proofs.lemmas.List.{reverse-append, length-reverse}
 use Rattle.std.specs.Prelude.{unwrap_or, slice_get, option_and_then}
 use Rattle.std.specs.Option.{option_or}
 use Rattle.actx_event.specs.declared.event.Event.{Event}
 use Rattle.actx_event.specs.declared.event.Event.TheVariants.{Before, Enter}
+use Rattle.actx_event.specs.declared.bracket.Open.{Open}
+use Rattle.actx_event.specs.Laws.{numbered}
 use Rattle.actx_event.specs.Event.{Declaration, is_number, resource_made, capture_made, closed_bracket, declaration_said}
 use Rattle.actx_event.specs.Noted.{noted_under}
 use Rattle.actx_event.specs.Front.{Front, front, place_before}
@@ -116,3 +118,19 @@ declaration_next v log n (Some e) h = ap (λ d. option_or d (noted_under v (decl
 pub declaration_number : (v : ℕ) (log : List Event) (p : ℕ) → declaration_at v log p ≡ declaration v (front log p)
 declaration_number v log zero = refl
 declaration_number v log (suc n) = declaration_next v log n (slice_get log n) (declaration_number v log n) ∙ ap (declaration v) (sym (front_suc log n))
+
+numbered_same : (log : List Event) (p : ℕ) (ns : List (Open ℕ)) (os : List (Open Front)) → p ≤ length log → SameBrackets (AtNumber log p) ns os → map numbered os ≡ ns
+numbered_same log p [] [] h s = refl
+numbered_same log p (n ∷ ns) (o ∷ os) h s =
+    let r = s.1 in
+    let long : length o.before ≡ n.before = ap length (sym r.1) ∙ front_length log n.before (omega (arith, r.0, h)) in
+    ap₂ (λ q qs. q ∷ qs) (ap₂ (λ b k. record { bracket = b; before = k }) (sym s.0) long) (numbered_same log p ns os h s.2)
+numbered_same log p [] (o ∷ os) h s = absurd s
+numbered_same log p (n ∷ ns) [] h s = absurd s
+
+-- the open brackets by number are those on fronts
+pub opened_agrees : (log : List Event) (p : ℕ) → p ≤ length log → map numbered (opened (front log p)) ≡ opened_at log p
+opened_agrees log p h = numbered_same log p (opened_at log p) (opened (front log p)) h (opened_number log p)
+
+pub steps_agree : (log : List Event) (n : ℕ) → n < length log → (step_number log (suc n) ≤ n) × (front log (step_number log (suc n)) ≡ causal_step (front log (suc n)))
+steps_agree log n h = let r = has log n h in step_at log n r.event r.there

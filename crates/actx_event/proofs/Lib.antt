@@ -3,3 +3,7 @@ pub mod Smaller
 pub mod Agree
 pub mod ByNumber
 pub mod WalkByNumber
+pub mod NearestByNumber
+pub mod Closers
+pub mod SameValue
+pub mod Validity

@@ -8,6 +8,7 @@ use Rattle.actx_event.specs.Front.{Front, front}
 use Rattle.actx_event.specs.Walk.{causal_step, Met, met_here, met_within, met_binding, walk_within, chain}
 use Rattle.actx_event.specs.Numbers.{step_behind, step_number, binds_at, met_number_within, met_number, walk_number_within, chain_at}
 use Rattle.actx_event.specs.Agreement.{BothOrNeither}
+use Rattle.actx_event.specs.Laws.{number_of}
 use Rattle.actx_event.proofs.Matching.{both_weaken}
 use Rattle.actx_event.proofs.ByNumber.{AtNumber, Has, has, front_suc, front_length, step_at, step_less}
 
@@ -90,3 +91,12 @@ pub chain_agrees : (log : List Event) (p v : ℕ) → p ≤ length log → map l
 unfolding chain chain_at
 chain_agrees log p v h =
     ap (λ k. map length (walk_within k (front log p) v)) (front_length log p h) ∙ walk_within_number p log p v h
+
+number_met : (log : List Event) (v p : ℕ) (a : Option ℕ) (b : Option Met) → p ≤ length log → BothOrNeither (MetAt log v p) a b → number_of b ≡ a
+number_met log v p None None h k = refl
+number_met log v p (Some n) (Some m) h k = ap Some (ap length (sym k.place) ∙ front_length log n (omega (arith, k.below, h)))
+number_met log v p None (Some m) h k = absurd k
+number_met log v p (Some n) None h k = absurd k
+
+pub met_numbers_agree : (log : List Event) (p v : ℕ) → p ≤ length log → number_of (met_binding (front log p) v) ≡ met_number log p v
+met_numbers_agree log p v h = number_met log v p (met_number log p v) (met_binding (front log p) v) h (met_agrees log p v h)

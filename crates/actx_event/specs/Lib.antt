@@ -8,3 +8,4 @@ pub mod Mappings
 pub mod Agreement
 pub mod Numbers
 pub mod Valid
+pub mod Laws

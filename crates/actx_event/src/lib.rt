@@ -4,6 +4,7 @@
 
 mod bracket;
 mod event;
+pub mod laws;
 mod valid;
 mod value;
 

@@ -12,7 +12,7 @@ use Rattle.actx_event.specs.Noted.{noted_under}
 use Rattle.actx_event.specs.Front.{Front, front, place_before}
 use Rattle.actx_event.specs.Brackets.{opened, before_opener}
 use Rattle.actx_event.specs.Walk.{place_named, causal_step, declaration}
-use Rattle.actx_event.specs.Numbers.{opened_behind, opened_at, first_made, number_named, step_behind, step_number, declaration_at}
+use Rattle.actx_event.specs.Numbers.{opened_behind, opened_at, first_made, place_number_named, step_behind, step_number, declaration_at}
 use Rattle.actx_event.specs.Agreement.{BothOrNeither, SameBrackets}
 use Rattle.actx_event.proofs.Matching.{both_or, both_if, both_unwrap, same_after, same_opener, same_weaken, both_weaken}
 
@@ -88,14 +88,14 @@ root_number : (log : List Event) (N : ℕ) (t : Bool) (a : Option ℕ) (b : Opti
 root_number log N true a b h = (omega arith, refl)
 root_number log N false a b h = h
 
-named_number : (e : Event) (log : List Event) (n : ℕ) → BothOrNeither (AtNumber log n) (number_named e log n) (place_named e (front log n))
+named_number : (e : Event) (log : List Event) (n : ℕ) → BothOrNeither (AtNumber log n) (place_number_named e log n) (place_named e (front log n))
 named_number (Before id) log n = made_number resource_made id.0 log n
 named_number (Enter snap) log n =
     root_number log n (snap.0 == 0) (first_made capture_made snap.0 log n) (place_before capture_made snap.0 (front log n)) (made_number capture_made snap.0 log n)
 named_number e log n = same_opener (AtNumber log n) (closed_bracket e) (opened_at log n) (opened (front log n)) (opened_number log n)
 
 step_behind_number : (e : Event) (log : List Event) (n : ℕ) → AtNumber log n (step_behind (Some e) log n) (causal_step (e ∷ front log n))
-step_behind_number e log n = both_unwrap (AtNumber log n) (number_named e log n) (place_named e (front log n)) n (front log n) (named_number e log n) (at_self log n)
+step_behind_number e log n = both_unwrap (AtNumber log n) (place_number_named e log n) (place_named e (front log n)) n (front log n) (named_number e log n) (at_self log n)
 
 -- one step by numbers is one step on fronts
 pub step_at : (log : List Event) (n : ℕ) (e : Event) → slice_get log n ≡ Some e → AtNumber log n (step_number log (suc n)) (causal_step (front log (suc n)))

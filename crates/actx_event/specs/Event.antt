@@ -5,6 +5,8 @@ use Rattle.actx_event.specs.declared.value.Shown.{Shown}
 use Rattle.actx_event.specs.declared.event.VarKind.{VarKind}
 use Rattle.actx_event.specs.declared.event.Event.{Event}
 use Rattle.actx_event.specs.declared.event.Event.TheVariants.{Init, Before, After, Destroy, Ready, Snap, Enter, Leave, Var, Bind, Unbind, Set, Off, Get, Arrive}
+use Rattle.actx_event.specs.declared.event.Numbered.{Numbered}
+use Rattle.actx_event.specs.declared.event.Numbered.TheVariants.{Resource, Capture, Variable}
 use Rattle.actx_event.specs.declared.bracket.Bracket.{Bracket}
 use Rattle.actx_event.specs.declared.bracket.Bracket.TheVariants.{Running, Entered, Bound}
 use Rattle.actx_event.specs.Noted.{Noted}
@@ -23,6 +25,12 @@ capture_made _ = None
 abbrev pub variable_made : Event → Option ℕ
 variable_made (Var id kind name default) = Some id.0
 variable_made _ = None
+
+-- the number that it makes, by what is numbered
+abbrev pub number_made : Numbered → Event → Option ℕ
+number_made Resource e = resource_made e
+number_made Capture e = capture_made e
+number_made Variable e = variable_made e
 
 -- the bracket that it opens
 abbrev pub opened_bracket : Event → Option Bracket
@@ -115,6 +123,12 @@ variable_named (Set id value) = Some id.0
 variable_named (Off id) = Some id.0
 variable_named (Get id value) = Some id.0
 variable_named _ = None
+
+-- the number that it names as one that was made before, by what is numbered
+abbrev pub number_named : Numbered → Event → Option ℕ
+number_named Resource e = resource_named e
+number_named Capture e = capture_named e
+number_named Variable e = variable_named e
 
 -- whether it is this number
 abbrev pub is_number : ℕ → Option ℕ → Bool

@@ -28,14 +28,14 @@ first_made makes i log zero = None
 first_made makes i log (suc n) = option_or (first_made makes i log n) (if is_number i (option_and_then makes (slice_get log n)) then Some n else None)
 
 -- the place that event n leads back to
-abbrev pub number_named : Event → List Event → ℕ → Option ℕ
-number_named (Before id) log n = first_made resource_made id.0 log n
-number_named (Enter snap) log n = if snap.0 == 0 then Some 0 else first_made capture_made snap.0 log n
-number_named e log n = before_opener (closed_bracket e) (opened_at log n)
+abbrev pub place_number_named : Event → List Event → ℕ → Option ℕ
+place_number_named (Before id) log n = first_made resource_made id.0 log n
+place_number_named (Enter snap) log n = if snap.0 == 0 then Some 0 else first_made capture_made snap.0 log n
+place_number_named e log n = before_opener (closed_bracket e) (opened_at log n)
 
 abbrev pub step_behind : Option Event → List Event → ℕ → ℕ
 step_behind None log n = n
-step_behind (Some e) log n = unwrap_or (number_named e log n) n
+step_behind (Some e) log n = unwrap_or (place_number_named e log n) n
 
 -- one causal step from place p
 abbrev pub step_number : List Event → ℕ → ℕ

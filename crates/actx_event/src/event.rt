@@ -1,5 +1,6 @@
 //! The events of a run.
 
+use crate::bracket::Bracket;
 use crate::value::Shown;
 use actx_text::Units;
 
@@ -77,4 +78,168 @@ pub enum Event {
     Stray { op: u64 },
     /// A line is printed, without its line feed.
     Print { text: Units },
+}
+
+/// What has numbers of its own, from 1 on.
+#[derive(Clone, Copy, Debug, PartialEq, Eq)]
+pub enum Numbered {
+    /// Asynchronous resources.
+    Resource,
+    /// Captures of the context mapping.
+    Capture,
+    /// Context variables.
+    Variable,
+}
+
+impl Event {
+    ghost use Rattle.std.specs.Prelude.{◌≡◌};
+    ghost use Rattle.std.specs.Option.{option_copied};
+    ghost use Rattle.std.specs.Prelude.{option_map};
+    ghost use Rattle.actx_event.specs.Noted.{noted_under};
+    ghost use Rattle.actx_event.specs.Event.{is_number, number_made, number_named, opened_bracket, closed_bracket, value_bound, binds, switched_off, declaration_said};
+
+    /// The number that this event makes.
+    pub fn number_made(&self, what: Numbered) -> Option<u64>
+        ensures { result ≡ number_made what self.now }
+    {
+        match (what, self) {
+            (Numbered::Resource, Event::Init { id, .. }) => Some(id.0),
+            (Numbered::Capture, Event::Snap { snap }) => Some(snap.0),
+            (Numbered::Variable, Event::Var { id, .. }) => Some(u64::from(id.0)),
+            _ => None,
+        }
+    }
+
+    /// The number that this event names as one that was made before it. The empty capture, 0, is
+    /// never made, so it counts as none.
+    pub fn number_named(&self, what: Numbered) -> Option<u64>
+        ensures { result ≡ number_named what self.now }
+    {
+        match what {
+            Numbered::Resource => self.resource_named(),
+            Numbered::Capture => self.capture_named(),
+            Numbered::Variable => self.variable_named(),
+        }
+    }
+
+    fn resource_named(&self) -> Option<u64>
+        ensures { result ≡ number_named Numbered.Resource self.now }
+    {
+        match self {
+            Event::Before { id } => Some(id.0),
+            Event::After { id } => Some(id.0),
+            Event::Destroy { id } => Some(id.0),
+            Event::Ready { id } => Some(id.0),
+            Event::Arrive { id, .. } => Some(id.0),
+            _ => None,
+        }
+    }
+
+    fn capture_named(&self) -> Option<u64>
+        ensures { result ≡ number_named Numbered.Capture self.now }
+    {
+        match self {
+            Event::Enter { snap } => {
+                if snap.0 == 0 {
+                    None
+                } else {
+                    Some(snap.0)
+                }
+            }
+            Event::Leave { snap } => {
+                if snap.0 == 0 {
+                    None
+                } else {
+                    Some(snap.0)
+                }
+            }
+            _ => None,
+        }
+    }
+
+    fn variable_named(&self) -> Option<u64>
+        ensures { result ≡ number_named Numbered.Variable self.now }
+    {
+        match self {
+            Event::Bind { id, .. } => Some(u64::from(id.0)),
+            Event::Unbind { id } => Some(u64::from(id.0)),
+            Event::Set { id, .. } => Some(u64::from(id.0)),
+            Event::Off { id } => Some(u64::from(id.0)),
+            Event::Get { id, .. } => Some(u64::from(id.0)),
+            _ => None,
+        }
+    }
+
+    /// The bracket that this event opens.
+    pub fn opened_bracket(&self) -> Option<Bracket>
+        ensures { result ≡ opened_bracket self.now }
+    {
+        match self {
+            Event::Before { id } => Some(Bracket::Running(*id)),
+            Event::Enter { snap } => Some(Bracket::Entered(*snap)),
+            Event::Bind { id, .. } => Some(Bracket::Bound(*id)),
+            _ => None,
+        }
+    }
+
+    /// The bracket that this event closes.
+    pub fn closed_bracket(&self) -> Option<Bracket>
+        ensures { result ≡ closed_bracket self.now }
+    {
+        match self {
+            Event::After { id } => Some(Bracket::Running(*id)),
+            Event::Leave { snap } => Some(Bracket::Entered(*snap)),
+            Event::Unbind { id } => Some(Bracket::Bound(*id)),
+            _ => None,
+        }
+    }
+
+    /// The value that this event binds the variable to.
+    pub fn value_bound(&self, variable: VarId) -> Option<&Shown>
+        ensures { option_copied result ≡ value_bound variable.0 self.now }
+    {
+        match self {
+            Event::Bind { id, value } => {
+                if variable.0 == id.0 {
+                    Some(value)
+                } else {
+                    None
+                }
+            }
+            Event::Set { id, value } => {
+                if variable.0 == id.0 {
+                    Some(value)
+                } else {
+                    None
+                }
+            }
+            _ => None,
+        }
+    }
+
+    /// Whether this event switches the variable off.
+    pub fn switches_off(&self, variable: VarId) -> bool
+        ensures { result ≡ is_number variable.0 (switched_off self.now) }
+    {
+        match self {
+            Event::Off { id } => variable.0 == id.0,
+            _ => false,
+        }
+    }
+
+    /// The default that this event declares of the variable.
+    pub fn default_declared(&self, variable: VarId) -> Option<&Shown>
+        ensures { option_copied result ≡ option_map (λ d. d.default) (noted_under variable.0 (declaration_said self.now)) }
+    {
+        match self {
+            Event::Var { id, default, .. } => {
+                if variable.0 == id.0 {
+                    Some(default)
+                } else {
+                    None
+                }
+            }
+            _ => None,
+        }
+    }
 }

@@ -9,6 +9,6 @@ mod valid;
 mod value;
 
 pub use bracket::{Bracket, Open};
-pub use event::{AsyncId, Event, SnapId, VarId, VarKind};
+pub use event::{AsyncId, Event, Numbered, SnapId, VarId, VarKind};
 pub use valid::{Failure, Rule};
 pub use value::Shown;

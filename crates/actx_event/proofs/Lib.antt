@@ -7,3 +7,4 @@ pub mod NearestByNumber
 pub mod Closers
 pub mod SameValue
 pub mod Validity
+pub mod Standing

@@ -5,10 +5,12 @@
 mod bracket;
 mod event;
 pub mod laws;
+mod open_brackets;
 mod valid;
 mod value;
 
 pub use bracket::{Bracket, Open};
 pub use event::{AsyncId, Event, Numbered, SnapId, VarId, VarKind};
+pub use open_brackets::{exec, nests, opened};
 pub use valid::{Failure, Rule};
 pub use value::Shown;

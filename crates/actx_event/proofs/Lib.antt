@@ -8,3 +8,5 @@ pub mod Closers
 pub mod SameValue
 pub mod Validity
 pub mod Standing
+pub mod Searches
+pub mod WalkSteps

@@ -100,3 +100,34 @@ number_met log v p (Some n) None h k = absurd k
 
 pub met_numbers_agree : (log : List Event) (p v : ℕ) → p ≤ length log → number_of (met_binding (front log p) v) ≡ met_number log p v
 met_numbers_agree log p v h = number_met log v p (met_number log p v) (met_binding (front log p) v) h (met_agrees log p v h)
+
+chain_enough : (n m : ℕ) (log : List Event) (p v : ℕ) → p ≤ n → p ≤ m → p ≤ length log → walk_number_within n log p v ≡ walk_number_within m log p v
+chain_enough zero zero log p v h k l = refl
+chain_enough zero (suc m) log zero v h k l = refl
+chain_enough zero (suc m) log (suc p) v h k l = absurd (omega (arith, h))
+chain_enough (suc n) zero log zero v h k l = refl
+chain_enough (suc n) zero log (suc p) v h k l = absurd (omega (arith, k))
+chain_enough (suc n) (suc m) log zero v h k l = refl
+chain_enough (suc n) (suc m) log (suc p) v h k l =
+    let s = step_less log p (omega (arith, l)) in
+    ap (λ ns. p ∷ (if binds_at v (slice_get log p) then [] else ns)) (chain_enough n m log (step_number log (suc p)) v (omega (arith, s, h)) (omega (arith, s, k)) (omega (arith, s, l)))
+
+pub chain_none : (log : List Event) (v : ℕ) → chain_at log 0 v ≡ []
+unfolding chain_at
+chain_none log v = refl
+
+-- the chain, by one step
+pub chain_step : (log : List Event) (n v : ℕ) → n < length log → chain_at log (suc n) v ≡ n ∷ (if binds_at v (slice_get log n) then [] else chain_at log (step_number log (suc n)) v)
+unfolding chain_at
+chain_step log n v h =
+    let s = step_less log n h in
+    ap (λ ns. n ∷ (if binds_at v (slice_get log n) then [] else ns)) (chain_enough n (step_number log (suc n)) log (step_number log (suc n)) v s (omega arith) (omega (arith, s, h)))
+
+-- a binding that was met stands before the place
+pub met_below : (log : List Event) (p v n : ℕ) → p ≤ length log → met_number log p v ≡ Some n → n < p
+met_below log p v n h is = go (met_number log p v) (met_binding (front log p) v) (met_agrees log p v h) is
+  where
+    go : (a : Option ℕ) (b : Option Met) → BothOrNeither (MetAt log v p) a b → a ≡ Some n → n < p
+    go None b k e = absurd cc
+    go (Some m) None k e = absurd k
+    go (Some m) (Some x) k e = let same : m ≡ n = cc in omega (arith, k.below)

@@ -6,11 +6,14 @@ mod bracket;
 mod event;
 pub mod laws;
 mod open_brackets;
+mod search;
 mod valid;
 mod value;
+mod walk;
 
 pub use bracket::{Bracket, Open};
 pub use event::{AsyncId, Event, Numbered, SnapId, VarId, VarKind};
 pub use open_brackets::{exec, nests, opened};
 pub use valid::{Failure, Rule};
 pub use value::Shown;
+pub use walk::{causal_step, chain, met_binding, nearest_binding};

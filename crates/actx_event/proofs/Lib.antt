@@ -10,3 +10,4 @@ pub mod Validity
 pub mod Standing
 pub mod Searches
 pub mod WalkSteps
+pub mod Rules

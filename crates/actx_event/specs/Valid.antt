@@ -1,6 +1,6 @@
 -- Which logs are valid, and the first failure of one that isn't. The rules speak of each event and of
 -- the events before it; a log may come from anywhere.
-use Rattle.std.specs.Prelude.{◌≡◌, ℕ, suc, ◌==◌, ℤ, pos, negsuc, Bool, true, false, ◌&&◌, List, [], ◌∷◌, length, reverse, count_by, Option, Some, None, is_some, option_map, if◌then◌else◌}
+use Rattle.std.specs.Prelude.{◌≡◌, ℕ, suc, ◌==◌, ℤ, pos, negsuc, Bool, true, false, ◌&&◌, List, [], ◌∷◌, length, reverse, Option, Some, None, is_some, option_map, if◌then◌else◌}
 use Rattle.std.specs.Option.{option_or}
 use Rattle.actx_event.specs.declared.value.Shown.{Shown}
 use Rattle.actx_event.specs.declared.value.Shown.TheVariants.{Undefined, Null, Bool as Truth, Num, Text, Made, Native}
@@ -43,7 +43,8 @@ same_value _ _ = false
 
 -- how many numbers were made
 abbrev pub made_count : (Event → Option ℕ) → Front → ℕ
-made_count makes es = count_by (λ e. is_some (makes e)) es
+made_count makes [] = 0
+made_count makes (e ∷ es) = if is_some (makes e) then suc (made_count makes es) else made_count makes es
 
 -- whether a number is the next one
 abbrev pub is_next : Option ℕ → ℕ → Bool

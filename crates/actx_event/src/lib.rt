@@ -3,6 +3,7 @@
 #![tactic(auto)]
 
 mod bracket;
+mod checking;
 mod event;
 pub mod laws;
 mod open_brackets;
@@ -12,6 +13,7 @@ mod value;
 mod walk;
 
 pub use bracket::{Bracket, Open};
+pub use checking::first_failure;
 pub use event::{AsyncId, Event, Numbered, SnapId, VarId, VarKind};
 pub use open_brackets::{exec, nests, opened};
 pub use valid::{Failure, Rule};

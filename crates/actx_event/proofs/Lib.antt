@@ -11,3 +11,4 @@ pub mod Standing
 pub mod Searches
 pub mod WalkSteps
 pub mod Rules
+pub mod Compact

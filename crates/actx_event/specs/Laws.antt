@@ -12,8 +12,9 @@ use Rattle.actx_event.specs.Front.{Front, front}
 use Rattle.actx_event.specs.Brackets.{opened, nests, IsClosed, IsPrefixOfClosed}
 use Rattle.actx_event.specs.Execution.{exec, trigger}
 use Rattle.actx_event.specs.Walk.{causal_step, Met, met_binding, declaration, nearest_binding, chain}
-use Rattle.actx_event.specs.Mappings.{Carried, carried_after, carried, carried_value, carried_exec, carried_trigger, carried_declaration}
+use Rattle.actx_event.specs.Mappings.{Mapping, Carried, carried_after, carried, carried_value, carried_exec, carried_trigger, carried_declaration}
 use Rattle.actx_event.specs.Agreement.{Agreement}
+use Rattle.actx_event.specs.Standing.{SameEntries, newest_only, StandsFor}
 use Rattle.actx_event.specs.Numbers.{opened_at, step_number, binds_at, met_number, nearest_at, chain_at}
 use Rattle.actx_event.specs.Valid.{is_numbered, is_introduced, is_nested, is_executed, is_read, broken_rule, first_failure, IsValid}
 
@@ -43,6 +44,18 @@ TriggerIsInnermost = (es : Front) → carried_trigger (carried es) ≡ trigger e
 -- what is carried of a variable is what its first `var` says
 abbrev pub DeclarationIsFirst : Type 0
 DeclarationIsFirst = (es : Front) (v : ℕ) → carried_declaration (carried es) v ≡ declaration v es
+
+-- a state that stands for another still does so after the same event
+abbrev pub EachEventKeepsStanding : Type 0
+EachEventKeepsStanding = (e : Event) (d c : Carried) → StandsFor d c → StandsFor (carried_after e d) (carried_after e c)
+
+-- and it gives each read the same value, and the same execution identifier and trigger
+abbrev pub StandingGivesSame : Type 0
+StandingGivesSame = (d c : Carried) → StandsFor d c → ((v : ℕ) → carried_value d v ≡ carried_value c v) × (carried_exec d ≡ carried_exec c) × (carried_trigger d ≡ carried_trigger c)
+
+-- the newest entries of a mapping are enough
+abbrev pub NewestEntriesSuffice : Type 0
+NewestEntriesSuffice = (m : Mapping) → SameEntries (newest_only m) m
 
 -- each step of the walk goes to a smaller place
 abbrev pub StepsGoDown : Type 0

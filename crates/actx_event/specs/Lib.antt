@@ -8,4 +8,5 @@ pub mod Mappings
 pub mod Agreement
 pub mod Numbers
 pub mod Valid
+pub mod Standing
 pub mod Laws

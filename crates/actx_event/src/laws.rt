@@ -1,6 +1,6 @@
 //! The laws of the definitions. Each function here does nothing: its contract is the law.
 
-ghost use Rattle.actx_event.specs.Laws.{NestsWherePrefixOfClosed, CarriedAgrees, EachEventKeepsAgreement, ReadsAreNearest, ExecutionIsInnermost, TriggerIsInnermost, DeclarationIsFirst, StepsGoDown, StepsAgree, OpenedAgree, MetAgree, WalkEnds, WalkGoesOn, NearestAgree, ChainsAgree, ValidWhereRulesMet, ValidReadsAreNearest, ValidLogsAreClosed, FailureIsFirst, ClosingFailsLast};
+ghost use Rattle.actx_event.specs.Laws.{NestsWherePrefixOfClosed, CarriedAgrees, EachEventKeepsAgreement, ReadsAreNearest, ExecutionIsInnermost, TriggerIsInnermost, DeclarationIsFirst, EachEventKeepsStanding, StandingGivesSame, NewestEntriesSuffice, StepsGoDown, StepsAgree, OpenedAgree, MetAgree, WalkEnds, WalkGoesOn, NearestAgree, ChainsAgree, ValidWhereRulesMet, ValidReadsAreNearest, ValidLogsAreClosed, FailureIsFirst, ClosingFailsLast};
 
 /// A list of events nests exactly where it is the beginning of a closed list.
 pub fn nesting()
@@ -23,6 +23,14 @@ pub fn reading()
     ensures execution { ExecutionIsInnermost }
     ensures trigger { TriggerIsInnermost }
     ensures declaration { DeclarationIsFirst }
+{
+}
+
+/// A state that keeps the newest entry of each variable alone may stand for the fold over all events.
+pub fn standing()
+    ensures kept { EachEventKeepsStanding }
+    ensures same { StandingGivesSame }
+    ensures newest { NewestEntriesSuffice }
 {
 }
 

@@ -29,7 +29,7 @@ made_stays makes i log n (suc p) x h le = go (n == suc p) refl (made_stays makes
 pub made_found : (makes : Event → Option ℕ) (i j : ℕ) (log : List Event) (n p : ℕ) (e : Event) → slice_get log n ≡ Some e → first_made makes i log n ≡ None → makes e ≡ Some j → i ≡ j → n < p → first_made makes i log p ≡ Some n
 made_found makes i j log n p e there none makes_it same lt =
     let here : first_made makes i log (suc n) ≡ Some n =
-      ap₂ (λ a o. option_or a (if is_number i (option_and_then makes o) then Some n else None)) none there ∙ (ap (λ o. if is_number i o then Some n else None) makes_it ∙ ap (λ (t : Bool). if t then Some n else None) (eq-eqb i j same)) in
+    ap₂ (λ a o. option_or a (if is_number i (option_and_then makes o) then Some n else None)) none there ∙ (ap (λ o. if is_number i o then Some n else None) makes_it ∙ ap (λ (t : Bool). if t then Some n else None) (eq-eqb i j same)) in
     made_stays makes i log (suc n) p n here lt
 
 -- what is said first stays so

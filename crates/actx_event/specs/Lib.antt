@@ -9,4 +9,5 @@ pub mod Agreement
 pub mod Numbers
 pub mod Valid
 pub mod Standing
+pub mod Examples
 pub mod Laws

@@ -45,7 +45,13 @@ fn left_open(brackets: &[Open<usize>], place: usize) -> Option<Failure>
 }
 
 /// The first rule that an event with number n breaks, where these brackets are open.
-fn broken_rule(alloc: Global, log: &[Event], n: usize, event: &Event, brackets: &[Open<usize>]) -> Result<Option<Rule>, AllocError>
+fn broken_rule(
+    alloc: Global,
+    log: &[Event],
+    n: usize,
+    event: &Event,
+    brackets: &[Open<usize>],
+) -> Result<Option<Rule>, AllocError>
     requires within { n < length log.now }
     requires standing { reverse brackets.now ≡ opened_at log.now n }
     ensures { IfOk result (λ rule. rule ≡ broken_rule event.now (front log.now n)) }
@@ -73,7 +79,9 @@ fn is_numbered(log: &[Event], n: usize, event: &Event) -> bool
     requires { n < length log.now }
     ensures { result ≡ is_numbered event.now (front log.now n) }
 {
-    is_next(log, n, event, Numbered::Resource) && is_next(log, n, event, Numbered::Capture) && is_next(log, n, event, Numbered::Variable)
+    is_next(log, n, event, Numbered::Resource)
+        && is_next(log, n, event, Numbered::Capture)
+        && is_next(log, n, event, Numbered::Variable)
 }
 
 fn is_next(log: &[Event], n: usize, event: &Event, what: Numbered) -> bool
@@ -106,7 +114,9 @@ fn is_introduced(log: &[Event], n: usize, event: &Event) -> bool
     requires { n < length log.now }
     ensures { result ≡ is_introduced event.now (front log.now n) }
 {
-    was_made(log, n, event, Numbered::Resource) && was_made(log, n, event, Numbered::Capture) && was_made(log, n, event, Numbered::Variable)
+    was_made(log, n, event, Numbered::Resource)
+        && was_made(log, n, event, Numbered::Capture)
+        && was_made(log, n, event, Numbered::Variable)
 }
 
 fn was_made(log: &[Event], n: usize, event: &Event, what: Numbered) -> bool

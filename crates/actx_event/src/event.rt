@@ -40,19 +40,33 @@ pub enum Event {
         exec: u64,
     },
     /// A callback of the resource begins.
-    Before { id: AsyncId },
+    Before {
+        id: AsyncId,
+    },
     /// A callback of the resource has ended.
-    After { id: AsyncId },
+    After {
+        id: AsyncId,
+    },
     /// The resource is destroyed.
-    Destroy { id: AsyncId },
+    Destroy {
+        id: AsyncId,
+    },
     /// What the resource waits for has settled.
-    Ready { id: AsyncId },
+    Ready {
+        id: AsyncId,
+    },
     /// The current mapping is captured.
-    Snap { snap: SnapId },
+    Snap {
+        snap: SnapId,
+    },
     /// A call under a capture begins.
-    Enter { snap: SnapId },
+    Enter {
+        snap: SnapId,
+    },
     /// A call under a capture has ended.
-    Leave { snap: SnapId },
+    Leave {
+        snap: SnapId,
+    },
     /// A context variable is made, with its name and its default.
     Var {
         id: VarId,
@@ -61,23 +75,46 @@ pub enum Event {
         default: Shown,
     },
     /// A call under a binding of the variable begins.
-    Bind { id: VarId, value: Shown },
+    Bind {
+        id: VarId,
+        value: Shown,
+    },
     /// A call under a binding of the variable has ended.
-    Unbind { id: VarId },
+    Unbind {
+        id: VarId,
+    },
     /// The variable is bound from here on (enterWith of AsyncLocalStorage).
-    Set { id: VarId, value: Shown },
+    Set {
+        id: VarId,
+        value: Shown,
+    },
     /// The variable is switched off (disable of AsyncLocalStorage).
-    Off { id: VarId },
+    Off {
+        id: VarId,
+    },
     /// The variable is read, with the value that was given.
-    Get { id: VarId, value: Shown },
+    Get {
+        id: VarId,
+        value: Shown,
+    },
     /// A turn of the loop begins: the clock's reading, and loop time, both in milliseconds.
-    Turn { now: u64, time: u64 },
+    Turn {
+        now: u64,
+        time: u64,
+    },
     /// A pending host operation has arrived, and its resource.
-    Arrive { op: u64, id: AsyncId },
+    Arrive {
+        op: u64,
+        id: AsyncId,
+    },
     /// An arrival that no pending host operation waits for.
-    Stray { op: u64 },
+    Stray {
+        op: u64,
+    },
     /// A line is printed, without its line feed.
-    Print { text: Units },
+    Print {
+        text: Units,
+    },
 }
 
 /// What has numbers of its own, from 1 on.
@@ -139,20 +176,8 @@ impl Event {
         ensures { result ≡ number_named Numbered.Capture self.now }
     {
         match self {
-            Event::Enter { snap } => {
-                if snap.0 == 0 {
-                    None
-                } else {
-                    Some(snap.0)
-                }
-            }
-            Event::Leave { snap } => {
-                if snap.0 == 0 {
-                    None
-                } else {
-                    Some(snap.0)
-                }
-            }
+            Event::Enter { snap } => { if snap.0 == 0 { None } else { Some(snap.0) } }
+            Event::Leave { snap } => { if snap.0 == 0 { None } else { Some(snap.0) } }
             _ => None,
         }
     }

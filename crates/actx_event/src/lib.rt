@@ -19,3 +19,6 @@ pub use open_brackets::{exec, nests, opened};
 pub use valid::{Failure, Rule};
 pub use value::Shown;
 pub use walk::{causal_step, chain, met_binding, nearest_binding};
+
+#[cfg(test)]
+mod tests;

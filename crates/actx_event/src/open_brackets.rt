@@ -95,7 +95,11 @@ pub(crate) fn innermost(brackets: &[Open<usize>]) -> u64
 }
 
 /// The open brackets behind an event with number n.
-pub(crate) fn follow(brackets: &mut Vec<Open<usize>>, event: &Event, n: usize) -> Result<(), AllocError>
+pub(crate) fn follow(
+    brackets: &mut Vec<Open<usize>>,
+    event: &Event,
+    n: usize,
+) -> Result<(), AllocError>
     ensures { IfOk result (λ _. reverse brackets.new.items ≡ brackets_after event.now n (reverse brackets.old.items)) }
 {
     if let Some(bracket) = event.closed_bracket() {

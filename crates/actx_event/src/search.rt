@@ -40,7 +40,12 @@ pub(crate) fn is_off_between(log: &[Event], from: usize, place: usize, variable:
 }
 
 /// The default of the variable: what its first `var` below a place says.
-pub(crate) fn default_value(alloc: Global, log: &[Event], place: usize, variable: VarId) -> Result<Shown, AllocError>
+pub(crate) fn default_value(
+    alloc: Global,
+    log: &[Event],
+    place: usize,
+    variable: VarId,
+) -> Result<Shown, AllocError>
     requires { place ≤ length log.now }
     ensures { IfOk result (λ value. value ≡ default_of (declaration_at variable.0 log.now place)) }
 {
@@ -53,7 +58,12 @@ pub(crate) fn default_value(alloc: Global, log: &[Event], place: usize, variable
 }
 
 /// The value that an event binds the variable to.
-pub(crate) fn bound_value(alloc: Global, log: &[Event], n: usize, variable: VarId) -> Result<Shown, AllocError>
+pub(crate) fn bound_value(
+    alloc: Global,
+    log: &[Event],
+    n: usize,
+    variable: VarId,
+) -> Result<Shown, AllocError>
     requires { n < length log.now }
     ensures { IfOk result (λ value. value ≡ unwrap_or (option_and_then (value_bound variable.0) (slice_get log.now n)) Undefined) }
 {

@@ -42,7 +42,12 @@ pub fn causal_step(alloc: Global, log: &[Event], place: usize) -> Result<usize, 
 
 /// The number of the first binding of the variable that the walk from a place looks at.
 /// It fails only where memory is refused.
-pub fn met_binding(alloc: Global, log: &[Event], place: usize, variable: VarId) -> Result<Option<usize>, AllocError>
+pub fn met_binding(
+    alloc: Global,
+    log: &[Event],
+    place: usize,
+    variable: VarId,
+) -> Result<Option<usize>, AllocError>
     requires { place ≤ length log.now }
     ensures { IfOk result (λ met. met ≡ met_number log.now place variable.0) }
 {
@@ -58,7 +63,12 @@ pub fn met_binding(alloc: Global, log: &[Event], place: usize, variable: VarId) 
 
 /// The numbers of the events that the walk from a place looks at, down to the first binding of the
 /// variable or the start. It fails only where memory is refused.
-pub fn chain(alloc: Global, log: &[Event], place: usize, variable: VarId) -> Result<Vec<usize>, AllocError>
+pub fn chain(
+    alloc: Global,
+    log: &[Event],
+    place: usize,
+    variable: VarId,
+) -> Result<Vec<usize>, AllocError>
     requires { place ≤ length log.now }
     ensures { IfOk result (λ numbers. numbers.items ≡ chain_at log.now place variable.0) }
 {
@@ -77,7 +87,12 @@ pub fn chain(alloc: Global, log: &[Event], place: usize, variable: VarId) -> Res
 /// The value that a read of the variable gives at a place: that of the first binding that the walk
 /// meets, what switching off leaves where the variable was switched off since, and its default where
 /// no binding is met. It fails only where memory is refused.
-pub fn nearest_binding(alloc: Global, log: &[Event], place: usize, variable: VarId) -> Result<Shown, AllocError>
+pub fn nearest_binding(
+    alloc: Global,
+    log: &[Event],
+    place: usize,
+    variable: VarId,
+) -> Result<Shown, AllocError>
     requires { place ≤ length log.now }
     ensures { IfOk result (λ value. value ≡ nearest_binding (front log.now place) variable.0) }
 {

@@ -14,7 +14,7 @@ loop-n-preserved c =
     let test : is_some (number_made c.args.what e) ≡ c.is_some.result = ap is_some (sym c.number_made.ensures) ∙ sym c.is_some.ensures in
     let more = count_more (number_made c.args.what) c.args.log.now l.n e c.is_some.result c.event_at.ensures test in
     elim c.if-is_some.branch [
-      then-is_some w ↦ record {
+      | then-is_some w ↦ record {
         counted = let grows = more ∙ ap (λ (t : Bool). if t then made_count (number_made c.args.what) (front c.args.log.now l.n) + 1 else made_count (number_made c.args.what) (front c.args.log.now l.n)) w.if-is_some.true in omega (arith, grows, w.count-is, l.invariant.counted);
         bound = omega (arith, w.count-is, l.invariant.bound);
       }

@@ -1,0 +1,14 @@
+pub mod Matching
+pub mod Smaller
+pub mod Agree
+pub mod ByNumber
+pub mod WalkByNumber
+pub mod NearestByNumber
+pub mod Closers
+pub mod SameValue
+pub mod Validity
+pub mod Standing
+pub mod Searches
+pub mod WalkSteps
+pub mod Rules
+pub mod Compact

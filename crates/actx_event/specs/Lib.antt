@@ -1,0 +1,13 @@
+pub mod Event
+pub mod Front
+pub mod Noted
+pub mod Brackets
+pub mod Execution
+pub mod Walk
+pub mod Mappings
+pub mod Agreement
+pub mod Numbers
+pub mod Valid
+pub mod Standing
+pub mod Examples
+pub mod Laws

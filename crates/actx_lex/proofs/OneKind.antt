@@ -1,5 +1,5 @@
 -- Each class has one kind of token, so what is found of that kind is the token that is found.
-use Rattle.std.proofs.Common.{◌≡◌, ℕ, ◌<◌, ◌⊎◌, inl, inr, Bool, true, false, ◌&&◌, ◌==◌, [], ◌∷◌, length, refl, sym, ap, ◌∙◌, subst}
+use Rattle.std.proofs.Common.{◌≡◌, ℕ, ◌<◌, ◌⊎◌, inl, inr, Bool, true, false, ◌&&◌, ◌==◌, [], ◌∷◌, length, refl, sym, ap, ◌∙◌, subst, Option, Some, None, Result, Ok, Err}
 use Rattle.std.specs.Prelude.{if◌then◌else◌, pos}
 use Rattle.actx_lex.specs.declared.element.Class.{Class}
 use Rattle.actx_lex.specs.declared.element.Class.TheVariants as c
@@ -14,8 +14,8 @@ use Rattle.actx_lex.specs.Templates.{TemplatePiece}
 use Rattle.actx_lex.specs.Signs.{Sign}
 use Rattle.actx_lex.specs.TokenAt as at
 use Rattle.actx_lex.specs.TokenAt.{word_kind, TokenAt}
-use Rattle.actx_lex.specs.Readers.{is_sign_unit, class}
-use Rattle.actx_lex.specs.Scans.{Found}
+use Rattle.actx_lex.specs.Readers.{PieceToken, is_sign_unit, class}
+use Rattle.actx_lex.specs.Scans.{Found, Scans}
 use Rattle.actx_lex.proofs.Basics.{equal}
 use Rattle.actx_lex.proofs.Classes.{kind-class, classed}
 
@@ -108,17 +108,33 @@ module _ (i : Bool) (a : Text) where
   pub sign-no : class i a ≡ c.Sign → ((s : Punct) (b : Text) → Sign i s a b → ⊥) → (j : TokenKind) (b : Text) → TokenAt i j a b → ⊥
   sign-no e n j b s = let o = sign-only e s in n o.0 b o.2
 
-  pub first-token : (us b : Text) (f : Bool) → a ≡ 96 ∷ rest a → class i a ≡ c.FirstPiece → Found TemplatePiece (rest a) (us, f) b → Found (TokenAt i) a (k.Template us true f) b
-  first-token us b f g e h = found_by {R = TemplatePiece} i (λ v. k.Template v.0 true v.1) a (rest a) b (us, f) (λ w d r. at.first_piece g r) (λ j d s. first-only e s) h
+  pub first-token : (j : TokenKind) (b : Text) → a ≡ 96 ∷ rest a → class i a ≡ c.FirstPiece → Found (PieceToken true) (rest a) j b → Found (TokenAt i) a j b
+  first-token j b g e h = record { here = make h.here; best = λ l d s. h.best l d (first-only e s) }
+    where
+      make : PieceToken true j (rest a) b → TokenAt i j a b
+      make w = subst (λ x. TokenAt i x a b) (sym w.1) (at.first_piece g w.2)
 
-  pub first-no : class i a ≡ c.FirstPiece → ((v : Text × Bool) (b : Text) → TemplatePiece v (rest a) b → ⊥) → (j : TokenKind) (b : Text) → TokenAt i j a b → ⊥
-  first-no e n j b s = let o = first-only e s in n o.0 b o.2
+  pub first-no : class i a ≡ c.FirstPiece → ((j : TokenKind) (b : Text) → PieceToken true j (rest a) b → ⊥) → (j : TokenKind) (b : Text) → TokenAt i j a b → ⊥
+  first-no e n j b s = n j b (first-only e s)
 
-  pub later-token : (us b : Text) (f : Bool) → i ≡ true → a ≡ 125 ∷ rest a → class i a ≡ c.LaterPiece → Found TemplatePiece (rest a) (us, f) b → Found (TokenAt i) a (k.Template us false f) b
-  later-token us b f t g e h = found_by {R = TemplatePiece} i (λ v. k.Template v.0 false v.1) a (rest a) b (us, f) (λ w d r. at.later_piece t g r) (λ j d s. later-only e s) h
+  pub later-token : (j : TokenKind) (b : Text) → i ≡ true → a ≡ 125 ∷ rest a → class i a ≡ c.LaterPiece → Found (PieceToken false) (rest a) j b → Found (TokenAt i) a j b
+  later-token j b t g e h = record { here = make h.here; best = λ l d s. h.best l d (later-only e s) }
+    where
+      make : PieceToken false j (rest a) b → TokenAt i j a b
+      make w = subst (λ x. TokenAt i x a b) (sym w.1) (at.later_piece t g w.2)
 
-  pub later-no : class i a ≡ c.LaterPiece → ((v : Text × Bool) (b : Text) → TemplatePiece v (rest a) b → ⊥) → (j : TokenKind) (b : Text) → TokenAt i j a b → ⊥
-  later-no e n j b s = let o = later-only e s in n o.0 b o.2
+  pub later-no : class i a ≡ c.LaterPiece → ((j : TokenKind) (b : Text) → PieceToken false j (rest a) b → ⊥) → (j : TokenKind) (b : Text) → TokenAt i j a b → ⊥
+  later-no e n j b s = n j b (later-only e s)
+
+-- the piece that is found, as a token
+pub piece-token : (o : Bool) (x us b : Text) (f : Bool) → Found TemplatePiece x (us, f) b → Found (PieceToken o) x (k.Template us o f) b
+piece-token o x us b f h = record { here = ((us, f), refl, h.here); best = best }
+  where
+    best : (j : TokenKind) (c : Text) → PieceToken o j x c → (length b < length c) ⊎ ((j ≡ k.Template us o f) × (c ≡ b))
+    best j c w = elim (h.best w.0 c w.2) [ inl g ↦ inl g | inr g ↦ inr (w.1 ∙ ap (λ (v : Text × Bool). k.Template v.0 o v.1) g.0, g.1) ]
+
+pub piece-no : (o : Bool) (x : Text) → ((v : Text × Bool) (b : Text) → TemplatePiece v x b → ⊥) → (j : TokenKind) (b : Text) → PieceToken o j x b → ⊥
+piece-no o x n j b w = n w.0 b w.2
 
 -- what the class of a piece tells
 abbrev Told : Bool → Text → Class → Type 0
@@ -147,3 +163,17 @@ first-told i a e = subst (Told i a) e (told i a)
 
 pub later-told : (i : Bool) (a : Text) → class i a ≡ c.LaterPiece → (i ≡ true) × (a ≡ 125 ∷ rest a)
 later-told i a e = subst (Told i a) e (told i a)
+
+-- ---- what is read of a piece is what is read of a token
+
+pub first-scans : {E : Type 0} (i : Bool) (a : Text) (r : Result (Option TokenKind) E) (b : Text) → class i a ≡ c.FirstPiece
+    → Scans (PieceToken true) (rest a) r b → Scans (TokenAt i) a r b
+first-scans i a (Ok (Some j)) b e h = first-token i a j b (first-told i a e) e h
+first-scans i a (Ok None) b e h = first-no i a e h
+first-scans i a (Err x) b e h = tt
+
+pub later-scans : {E : Type 0} (i : Bool) (a : Text) (r : Result (Option TokenKind) E) (b : Text) → class i a ≡ c.LaterPiece
+    → Scans (PieceToken false) (rest a) r b → Scans (TokenAt i) a r b
+later-scans i a (Ok (Some j)) b e h = let t = later-told i a e in later-token i a j b t.0 t.1 e h
+later-scans i a (Ok None) b e h = later-no i a e h
+later-scans i a (Err x) b e h = tt

@@ -17,7 +17,7 @@ use Rattle.actx_lex.proofs.Numbers.{number-only}
 use Rattle.actx_lex.proofs.Quotes.{quoted-only, piece-only}
 use Rattle.actx_lex.proofs.Signs.{sign-longest}
 use Rattle.actx_lex.proofs.Classes.{kind-class, classed, ungapped, token-short}
-use Rattle.actx_lex.proofs.OneKind.{word-token, number-token, text-token, first-token, later-token, sign-token}
+use Rattle.actx_lex.proofs.OneKind.{word-token, number-token, text-token, first-token, later-token, piece-token, sign-token}
 use Rattle.actx_lex.proofs.Runs.{made, one_token, nothing, from_start}
 
 -- the longest token at a place is the one that a reader finds
@@ -33,11 +33,11 @@ longest-found {i} {j} {a} {b} (at.word {us = us} w) l = let f = word-first w in 
 longest-found {i} {j} {a} {b} (at.number {n = n} w) l = number-token i a n b (classed {i = i} (at.number w)) (number-only w)
 longest-found {i} {j} {a} {b} (at.text {us = us} w) l = text-token i a us b (classed {i = i} (at.text w)) (quoted-only w)
 longest-found {i} {j} {a} {b} (at.first_piece {us = us} {closes = e} h w) l =
-    first-token i a us b e (h ∙ ap (λ x. 96 ∷ x) (sym (ap rest h))) (classed {i = i} (at.first_piece h w))
-    (piece-only (subst (λ x. TemplatePiece (us, e) x b) (sym (ap rest h)) w))
+    first-token i a (k.Template us true e) b (h ∙ ap (λ x. 96 ∷ x) (sym (ap rest h))) (classed {i = i} (at.first_piece h w))
+    (piece-token true (rest a) us b e (piece-only (subst (λ x. TemplatePiece (us, e) x b) (sym (ap rest h)) w)))
 longest-found {i} {j} {a} {b} (at.later_piece {us = us} {closes = e} t h w) l =
-    later-token i a us b e t (h ∙ ap (λ x. 125 ∷ x) (sym (ap rest h))) (classed {i = i} (at.later_piece t h w))
-    (piece-only (subst (λ x. TemplatePiece (us, e) x b) (sym (ap rest h)) w))
+    later-token i a (k.Template us false e) b t (h ∙ ap (λ x. 125 ∷ x) (sym (ap rest h))) (classed {i = i} (at.later_piece t h w))
+    (piece-token false (rest a) us b e (piece-only (subst (λ x. TemplatePiece (us, e) x b) (sym (ap rest h)) w)))
 longest-found {i} {j} {a} {b} (at.sign {s = s} w) l =
     sign-token i a s b (classed {i = i} (at.sign w)) (sign-longest i a b s w (λ t e g. l (k.Punct t) e (at.sign g)))
 

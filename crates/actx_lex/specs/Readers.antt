@@ -3,6 +3,8 @@
 use Rattle.std.specs.Prelude.{◌≡◌, ℕ, ◌+◌, ◌-◌, ◌*◌, ◌/◌, ◌%◌, nat_le, nat_lt, Bool, true, false, not, ◌&&◌, ◌||◌, ◌==◌, if◌then◌else◌, List, [], ◌∷◌, Option, Some, None, filter}
 use Rattle.actx_lex.specs.declared.token.Punct.{Punct}
 use Rattle.actx_lex.specs.declared.token.Punct.TheVariants as p
+use Rattle.actx_lex.specs.declared.token.TokenKind.{TokenKind}
+use Rattle.actx_lex.specs.declared.token.TokenKind.TheVariants as k
 use Rattle.actx_lex.specs.declared.element.Element.{Element}
 use Rattle.actx_lex.specs.declared.element.Element.TheVariants as el
 use Rattle.actx_lex.specs.declared.element.Class.{Class}
@@ -10,6 +12,7 @@ use Rattle.actx_lex.specs.declared.element.Class.TheVariants as cl
 use Rattle.actx_lex.specs.Units.{Text, between, is_line_end, is_white_space, is_digit, is_hex_digit, hex_value, begins, begins_digit, rest, past_line_end, first_character, starts_word, continues_word}
 use Rattle.actx_lex.specs.Escapes.{control_unit}
 use Rattle.actx_lex.specs.Texts.{is_quote}
+use Rattle.actx_lex.specs.Templates.{TemplatePiece}
 use Rattle.actx_lex.specs.Signs.{spelling, may_stand}
 
 -- ---- gaps
@@ -160,6 +163,10 @@ quote_at (c ∷ a) = if is_quote c then Some (c, a) else None
 unfoldable pub end_at : Text → Option (Bool × Text)
 end_at [] = None
 end_at (c ∷ a) = if c == 96 then Some (true, a) else (if (c == 36) && begins 123 a then Some (false, rest a) else None)
+
+-- the token of a piece, after the backquote or brace that begins it
+abbrev pub PieceToken : Bool → TokenKind → Text → Text → Type 0
+PieceToken opens j a b = (v : Text × Bool) × (j ≡ k.Template v.0 opens v.1) × TemplatePiece v a b
 
 -- ---- signs
 

@@ -5,6 +5,8 @@ ghost use Rattle.actx_lex.specs.declared.token.Token.{Token};
 ghost use Rattle.actx_lex.specs.TokenAt as at_front;
 ghost use Rattle.actx_lex.specs.TokenAt.{TokenAt};
 ghost use Rattle.actx_lex.specs.TokenLists.{SpellsTokens, Reaches, StandBetween};
+ghost use Rattle.actx_lex.specs.Units as units;
+ghost use Rattle.actx_lex.specs.Readers.{PieceToken};
 ghost use Rattle.actx_lex.specs.Scans.{Scans};
 
 use crate::braces::{follow, in_template};
@@ -23,6 +25,28 @@ fn word_kind(units: Units) -> TokenKind
         TokenKind::Reserved(units)
     } else {
         TokenKind::Name(units)
+    }
+}
+
+/// Reads the piece of a template whose backquote or brace comes next.
+fn piece_token(
+    alloc: Global,
+    text: &mut Cursor<'_>,
+    opens: bool,
+) -> Result<Option<TokenKind>, AllocError>
+    ensures { Scans (PieceToken opens) (units.rest text.old) result text.new }
+{
+    let mut after = text.rest();
+    match after.piece(alloc)? {
+        None => Ok(None),
+        Some((units, closes)) => {
+            *text = after;
+            Ok(Some(TokenKind::Template {
+                text: units,
+                opens,
+                closes,
+            }))
+        }
     }
 }
 
@@ -47,34 +71,8 @@ fn token(
             None => Ok(None),
             Some(units) => Ok(Some(TokenKind::Text(units))),
         },
-        Class::FirstPiece => {
-            let mut after = text.rest();
-            match after.piece(alloc)? {
-                None => Ok(None),
-                Some((text_units, closes)) => {
-                    *text = after;
-                    Ok(Some(TokenKind::Template {
-                        text: text_units,
-                        opens: true,
-                        closes,
-                    }))
-                }
-            }
-        }
-        Class::LaterPiece => {
-            let mut after = text.rest();
-            match after.piece(alloc)? {
-                None => Ok(None),
-                Some((text_units, closes)) => {
-                    *text = after;
-                    Ok(Some(TokenKind::Template {
-                        text: text_units,
-                        opens: false,
-                        closes,
-                    }))
-                }
-            }
-        }
+        Class::FirstPiece => piece_token(alloc, text, true),
+        Class::LaterPiece => piece_token(alloc, text, false),
         Class::Sign => match text.sign(in_template) {
             None => Ok(None),
             Some(sign) => Ok(Some(TokenKind::Punct(sign))),

@@ -1,7 +1,7 @@
 use Rattle.std.proofs.Common.{sym, arith, w64, ◌<◌, ◌≤◌, ◌^◌}
 use Rattle.std.proofs.lemmas.Int.{to_z_pos}
 use Rattle.actx_lex.specs.Numbers.{max_safe_integer}
-use Rattle.actx_lex.proofs.OneKind.{word-no, word-token, number-no, number-token, text-no, text-token, first-no, first-token, later-no, later-token, sign-no, sign-token, first-told, later-told}
+use Rattle.actx_lex.proofs.OneKind.{word-no, word-token, number-no, number-token, text-no, text-token, sign-no, sign-token, first-scans, later-scans}
 use Rattle.actx_lex.proofs.lex.token.Goals as goal
 
 pub returns-in-None : goal.returns-in-None
@@ -31,19 +31,8 @@ returns-in-None-sign c = sign-no _ _ (sym c.in-Sign.ensures) c.in-None-sign.ensu
 pub returns-in-Some-sign : goal.returns-in-Some-sign
 returns-in-Some-sign c = sign-token _ _ _ _ (sym c.in-Sign.ensures) c.in-Some-sign.ensures
 
-pub returns-in-None-3 : goal.returns-in-None-3
-returns-in-None-3 c = first-no _ _ (sym c.in-FirstPiece.ensures) (rw c.rest-after.ensures at (rw c.in-None-3.is at c.in_ok-piece-in-FirstPiece.ensures))
+pub returns-in-FirstPiece : goal.returns-in-FirstPiece
+returns-in-FirstPiece c = first-scans _ _ _ _ (sym c.in-FirstPiece.ensures) c.piece_token.ensures
 
-pub returns-in-Some-3 : goal.returns-in-Some-3
-returns-in-Some-3 c =
-    let e = sym c.in-FirstPiece.ensures in
-    first-token _ _ _ _ _ (first-told _ _ e) e (rw c.rest-after.ensures at (rw c.in-Some-3.is at c.in_ok-piece-in-FirstPiece.ensures))
-
-pub returns-in-None-4 : goal.returns-in-None-4
-returns-in-None-4 c = later-no _ _ (sym c.in-LaterPiece.ensures) (rw c.rest-after-in-LaterPiece.ensures at (rw c.in-None-4.is at c.in_ok-piece-in-LaterPiece.ensures))
-
-pub returns-in-Some-4 : goal.returns-in-Some-4
-returns-in-Some-4 c =
-    let e = sym c.in-LaterPiece.ensures in
-    let t = later-told _ _ e in
-    later-token _ _ _ _ _ t.0 t.1 e (rw c.rest-after-in-LaterPiece.ensures at (rw c.in-Some-4.is at c.in_ok-piece-in-LaterPiece.ensures))
+pub returns-in-LaterPiece : goal.returns-in-LaterPiece
+returns-in-LaterPiece c = later-scans _ _ _ _ (sym c.in-LaterPiece.ensures) c.piece_token-in-LaterPiece.ensures

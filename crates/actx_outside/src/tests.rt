@@ -21,7 +21,10 @@ fn a_file_of_the_system(rt: HostRuntime) -> Result<(), Fail> {
         assert_eq!(rt; bytes.as_slice(), want);
     }
     assert!(rt; matches!(shelf.fetch(alloc, "six", 5), Err(ShelfError::Failed)));
-    assert!(rt; matches!(shelf.fetch(alloc, ".", 5), Err(ShelfError::Failed)), "a folder");
+    assert!(rt;
+        matches!(shelf.fetch(alloc, ".", 5), Err(ShelfError::Failed)),
+        "a folder"
+    );
     Ok(())
 }
 
@@ -50,8 +53,14 @@ fn files_in_memory(rt: HostRuntime) -> Result<(), Fail> {
     let mut shelf = ListShelf::new(alloc, files, vec![in alloc; 2]?);
     let bytes = shelf.fetch(alloc, "a", 1).ok().ok_or("call 0")?;
     assert_eq!(rt; bytes.as_slice(), b"on".as_slice());
-    assert!(rt; matches!(shelf.fetch(alloc, "b", 1), Err(ShelfError::Failed)), "a name that it lacks");
-    assert!(rt; matches!(shelf.fetch(alloc, "a", 1), Err(ShelfError::Failed)), "a call that is to fail");
+    assert!(rt;
+        matches!(shelf.fetch(alloc, "b", 1), Err(ShelfError::Failed)),
+        "a name that it lacks"
+    );
+    assert!(rt;
+        matches!(shelf.fetch(alloc, "a", 1), Err(ShelfError::Failed)),
+        "a call that is to fail"
+    );
     let bytes = shelf.fetch(alloc, "a", 9).ok().ok_or("call 3")?;
     assert_eq!(rt; bytes.as_slice(), b"one".as_slice());
     Ok(())

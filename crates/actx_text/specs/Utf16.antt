@@ -1,4 +1,4 @@
--- UTF-16: scalar values as units, and units as scalar values (the Unicode Standard §3.9, D91).
+-- UTF-16: scalar values as units, and units as scalar values (the Unicode Standard §3.9, "UTF-16 encoding form").
 use Rattle.std.specs.Prelude.{ℕ, ◌+◌, ◌-◌, ◌*◌, ◌/◌, ◌%◌, Bool, ◌&&◌, List, [], ◌∷◌, nat_lt, nat_le, if◌then◌else◌}
 
 -- the one or two units of a scalar value (UTF16EncodeCodePoint, ECMA-262 §11.1.1)

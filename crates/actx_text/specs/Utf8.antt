@@ -1,4 +1,4 @@
--- UTF-8 (the Unicode Standard §3.9, D92 and table 3-6; RFC 3629).
+-- UTF-8 (the Unicode Standard §3.9, table 3-6; RFC 3629).
 use Rattle.std.specs.Prelude.{◌≡◌, ◌≢◌, ℕ, ◌+◌, ◌/◌, ◌%◌, ◌<◌, List, [], ◌∷◌, ◌++◌, length, take, drop, nat_lt, All, flat_map, if◌then◌else◌}
 use Rattle.actx_text.specs.Scalars.{IsScalar}
 

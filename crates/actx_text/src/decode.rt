@@ -10,7 +10,7 @@ use crate::units::{Units, from_units};
 use std::alloc::{AllocError, Global};
 
 /// The text that the bytes spell in UTF-8: the UTF-16 units of their scalar values
-/// (the Unicode Standard §3.9, D91 and D92).
+/// (the Unicode Standard §3.9).
 ///
 /// # Errors
 /// `BadUtf8` exactly where the bytes are not UTF-8, with the place of the first byte of the first

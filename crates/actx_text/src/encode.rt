@@ -7,7 +7,7 @@ use crate::units::{Units, as_units};
 use std::alloc::{AllocError, Global};
 
 /// A text in UTF-8: a surrogate pair as its one scalar value, and each lone surrogate as U+FFFD
-/// (StringToCodePoints of ECMA-262 §11.1.5; the Unicode Standard §3.9, D92).
+/// (StringToCodePoints of ECMA-262 §11.1.5; the Unicode Standard §3.9).
 ///
 /// # Errors
 /// Only want of memory.

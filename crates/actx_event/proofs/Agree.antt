@@ -1,18 +1,17 @@
 -- What is carried agrees with the walk, after every list of events.
-use Rattle.std.proofs.Common.{◌≡◌, ℕ, suc, ◌==◌, Bool, true, false, List, [], ◌∷◌, Option, Some, None, if◌then◌else◌, refl, sym, ap, ap₂, ◌∙◌, subst, eqb-true}
+use Rattle.std.proofs.Common.{◌≡◌, ℕ, suc, ◌==◌, Bool, true, false, List, [], ◌∷◌, Option, Some, None, if◌then◌else◌, refl, sym, ap, ap₂, ◌∙◌, eqb-true}
 use Rattle.std.specs.Prelude.{unwrap_or}
 use Rattle.std.specs.Option.{option_or}
-use Rattle.actx_event.specs.declared.value.Shown.{Shown}
 use Rattle.actx_event.specs.declared.event.Event.{Event}
 use Rattle.actx_event.specs.declared.event.Event.TheVariants.{Before, Enter}
 use Rattle.actx_event.specs.Event.{Binding, value_given, is_number, resource_made, capture_made, closed_bracket, binding_made, switched_off, trigger_said, declaration_said}
 use Rattle.actx_event.specs.Noted.{Noted, noted_under, first_noted, with_note}
 use Rattle.actx_event.specs.Front.{Front, place_before, first_said}
-use Rattle.actx_event.specs.Brackets.{opened, before_opener}
+use Rattle.actx_event.specs.Brackets.{opened}
 use Rattle.actx_event.specs.Execution.{exec, trigger, trigger_of}
 use Rattle.actx_event.specs.Walk.{place_named, causal_step, Met, met_here, met_binding, epoch, declaration, default_of, left_by_off, met_value, nearest_binding}
-use Rattle.actx_event.specs.Mappings.{Entry, Mapping, first_entry, Carried, times, mapping_named, with_binding, kept_under, with_off, carried_after, carried, entry_value, carried_value, carried_exec, carried_trigger}
-use Rattle.actx_event.specs.Agreement.{entry_met, AgreesAt, BothOrNeither, SameBrackets, Agreement}
+use Rattle.actx_event.specs.Mappings.{Mapping, first_entry, Carried, times, mapping_named, with_binding, kept_under, with_off, carried_after, carried, entry_value, carried_value, carried_exec, carried_trigger}
+use Rattle.actx_event.specs.Agreement.{entry_met, AgreesAt, BothOrNeither, Agreement}
 use Rattle.actx_event.proofs.Matching.{both_or, both_or_none, both_if, both_unwrap, same_after, same_opener, same_innermost}
 use Rattle.actx_event.proofs.Smaller.{met_none, met_step}
 

@@ -1,16 +1,16 @@
 -- Places by number are places as fronts: the step.
 use Rattle.std.proofs.Common.{◌≡◌, ℕ, zero, suc, ◌<◌, ◌≤◌, ◌==◌, Bool, true, false, List, [], ◌∷◌, ◌++◌, length, map, take, reverse, Option, Some, None, option_to_list, if◌then◌else◌, refl, sym, ap, ap₂, ◌∙◌, subst, arith, length-take-le}
 use Rattle.std.proofs.lemmas.List.{reverse-append, length-reverse}
-use Rattle.std.specs.Prelude.{unwrap_or, slice_get, option_and_then}
+use Rattle.std.specs.Prelude.{slice_get, option_and_then}
 use Rattle.std.specs.Option.{option_or}
 use Rattle.actx_event.specs.declared.event.Event.{Event}
 use Rattle.actx_event.specs.declared.event.Event.TheVariants.{Before, Enter}
 use Rattle.actx_event.specs.declared.bracket.Open.{Open}
 use Rattle.actx_event.specs.Laws.{numbered}
-use Rattle.actx_event.specs.Event.{Declaration, is_number, resource_made, capture_made, closed_bracket, declaration_said}
+use Rattle.actx_event.specs.Event.{is_number, resource_made, capture_made, closed_bracket, declaration_said}
 use Rattle.actx_event.specs.Noted.{noted_under}
 use Rattle.actx_event.specs.Front.{Front, front, place_before}
-use Rattle.actx_event.specs.Brackets.{opened, before_opener}
+use Rattle.actx_event.specs.Brackets.{opened}
 use Rattle.actx_event.specs.Walk.{place_named, causal_step, declaration}
 use Rattle.actx_event.specs.Numbers.{opened_behind, opened_at, first_made, place_number_named, step_behind, step_number, declaration_at}
 use Rattle.actx_event.specs.Agreement.{BothOrNeither, SameBrackets}

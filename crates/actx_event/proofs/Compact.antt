@@ -1,5 +1,5 @@
 -- A state that keeps less stands for the fold.
-use Rattle.std.proofs.Common.{◌≡◌, ℕ, suc, ◌==◌, Bool, true, false, List, [], ◌∷◌, Option, Some, None, if◌then◌else◌, refl, sym, ap, ap₂, ◌∙◌, eqb-true}
+use Rattle.std.proofs.Common.{◌≡◌, ℕ, suc, ◌==◌, Bool, true, false, List, [], ◌∷◌, Option, Some, None, if◌then◌else◌, refl, ap, ap₂, ◌∙◌, eqb-true}
 use Rattle.std.proofs.lemmas.Bool.Decides.{nat_tests}
 use Rattle.std.proofs.Common.{arith}
 use Rattle.std.specs.Prelude.{unwrap_or}
@@ -9,8 +9,8 @@ use Rattle.actx_event.specs.declared.event.Event.TheVariants.{Before, Enter}
 use Rattle.actx_event.specs.Event.{Binding, resource_made, capture_made, closed_bracket, binding_made, switched_off, trigger_said, declaration_said}
 use Rattle.actx_event.specs.Noted.{Noted, noted_under, first_noted, with_note}
 use Rattle.actx_event.specs.Execution.{trigger_of}
-use Rattle.actx_event.specs.Mappings.{Entry, Mapping, first_entry, times, Carried, mapping_named, with_binding, kept_under, with_off, carried_after, entry_value, carried_value, carried_exec, carried_trigger}
-use Rattle.actx_event.specs.Agreement.{BothOrNeither, SameBrackets}
+use Rattle.actx_event.specs.Mappings.{Mapping, first_entry, times, Carried, mapping_named, with_binding, kept_under, with_off, carried_after, entry_value, carried_value, carried_exec, carried_trigger}
+use Rattle.actx_event.specs.Agreement.{BothOrNeither}
 use Rattle.actx_event.specs.Standing.{SameEntries, without, newest_only, StandsFor}
 use Rattle.actx_event.proofs.Matching.{both_or, both_unwrap, same_after, same_opener, same_innermost}
 

@@ -1,14 +1,13 @@
 -- The nearest binding by numbers is the nearest binding on fronts.
-use Rattle.std.proofs.Common.{◌≡◌, ℕ, zero, suc, ◌<◌, ◌≤◌, ◌==◌, nat_le, Bool, true, false, ◌&&◌, ◌||◌, List, [], ◌∷◌, ◌++◌, length, Option, Some, None, option_to_list, if◌then◌else◌, refl, sym, ap, ap₂, ◌∙◌, subst, arith, eq-eqb}
+use Rattle.std.proofs.Common.{◌≡◌, ℕ, zero, suc, ◌<◌, ◌≤◌, ◌==◌, nat_le, Bool, true, false, ◌&&◌, ◌||◌, List, ◌++◌, length, Option, Some, None, option_to_list, if◌then◌else◌, refl, sym, ap, ap₂, ◌∙◌, subst, arith, eq-eqb}
 use Rattle.std.proofs.lemmas.Bool.Decides.{nat_tests}
 use Rattle.std.specs.Prelude.{slice_get, option_and_then, unwrap_or}
-use Rattle.actx_event.specs.declared.value.Shown.{Shown}
 use Rattle.actx_event.specs.declared.value.Shown.TheVariants.{Undefined}
 use Rattle.actx_event.specs.declared.event.Event.{Event}
-use Rattle.actx_event.specs.Event.{is_number, value_bound, switched_off}
+use Rattle.actx_event.specs.Event.{is_number, switched_off}
 use Rattle.actx_event.specs.Front.{Front, front}
 use Rattle.actx_event.specs.Walk.{Met, met_binding, epoch, declaration, default_of, left_by_off, met_value, nearest_binding}
-use Rattle.actx_event.specs.Numbers.{met_number, is_off_between, declaration_at, value_at, nearest_at}
+use Rattle.actx_event.specs.Numbers.{met_number, is_off_between, value_at, nearest_at}
 use Rattle.actx_event.specs.Agreement.{BothOrNeither}
 use Rattle.actx_event.proofs.ByNumber.{front_suc, declaration_number}
 use Rattle.actx_event.proofs.WalkByNumber.{MetAt, met_agrees}

@@ -1,12 +1,9 @@
 -- The rules of valid logs, as the code tests them.
-use Rattle.std.proofs.Common.{◌≡◌, ℕ, suc, ◌+◌, ◌<◌, ◌≤◌, Bool, true, false, List, [], ◌∷◌, ◌++◌, length, reverse, Option, Some, None, option_to_list, if◌then◌else◌, refl, sym, ap, ap₂, ◌∙◌, subst, arith, add-one}
+use Rattle.std.proofs.Common.{◌≡◌, ℕ, suc, ◌+◌, Bool, true, false, List, [], ◌∷◌, length, Option, Some, None, if◌then◌else◌, refl, sym, ap, ◌∙◌, arith, add-one}
 use Rattle.std.specs.Prelude.{slice_get, is_some}
-use Rattle.actx_event.specs.declared.value.Shown.{Shown}
 use Rattle.actx_event.specs.declared.event.Event.{Event}
 use Rattle.actx_event.specs.declared.bracket.Open.{Open}
-use Rattle.actx_event.specs.declared.valid.Failure.{Failure}
-use Rattle.actx_event.specs.declared.valid.Rule.{Rule}
-use Rattle.actx_event.specs.declared.valid.Rule.TheVariants.{Numbering, Introduction, Nesting, Execution, Reading}
+use Rattle.actx_event.specs.declared.valid.Rule.TheVariants.{Nesting}
 use Rattle.actx_event.specs.Front.{Front, front, place_before}
 use Rattle.actx_event.specs.Brackets.{opened}
 use Rattle.actx_event.specs.Numbers.{opened_at, first_made}

@@ -1,15 +1,15 @@
 -- What a search finds at a place, it finds at each later one.
-use Rattle.std.proofs.Common.{◌≡◌, ℕ, zero, suc, ◌+◌, ◌-◌, ◌<◌, ◌≤◌, ◌==◌, nat_le, Bool, true, false, ◌&&◌, ◌||◌, List, [], ◌∷◌, length, Option, Some, None, if◌then◌else◌, refl, sym, ap, ap₂, ◌∙◌, subst, arith, eq-eqb}
+use Rattle.std.proofs.Common.{◌≡◌, ℕ, zero, suc, ◌<◌, ◌≤◌, ◌==◌, nat_le, Bool, true, false, ◌&&◌, ◌||◌, List, Option, Some, None, if◌then◌else◌, refl, sym, ap, ap₂, ◌∙◌, arith, eq-eqb}
 use Rattle.std.proofs.lemmas.Bool.Decides.{nat_tests}
-use Rattle.std.specs.Prelude.{slice_get, option_and_then, option_map, unwrap_or, is_some}
-use Rattle.std.specs.Option.{option_or, option_copied}
+use Rattle.std.specs.Prelude.{slice_get, option_and_then, option_map, unwrap_or}
+use Rattle.std.specs.Option.{option_or}
 use Rattle.std.specs.Prelude.{IfOk}
 use Rattle.std.specs.declared.result.Result.{Result}
 use Rattle.std.specs.declared.result.Result.TheVariants.{Ok, Err}
 use Rattle.actx_event.specs.declared.value.Shown.{Shown}
 use Rattle.actx_event.specs.declared.event.Event.{Event}
 use Rattle.actx_event.specs.Noted.{noted_under}
-use Rattle.actx_event.specs.Event.{Declaration, is_number, value_bound, binds, switched_off, declaration_said}
+use Rattle.actx_event.specs.Event.{Declaration, is_number, switched_off, declaration_said}
 use Rattle.actx_event.specs.Walk.{default_of}
 use Rattle.actx_event.specs.Numbers.{first_made, is_off_between, declaration_at}
 

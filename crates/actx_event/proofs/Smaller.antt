@@ -1,13 +1,11 @@
 -- Each step of the walk goes to a smaller place; so the walk is said by its first step.
-use Rattle.std.proofs.Common.{◌≡◌, ℕ, zero, suc, ◌≤◌, ◌==◌, Bool, true, false, List, [], ◌∷◌, length, Option, Some, None, if◌then◌else◌, refl, sym, ap, ◌∙◌, arith}
-use Rattle.std.specs.Prelude.{unwrap_or}
-use Rattle.std.specs.Option.{option_or}
+use Rattle.std.proofs.Common.{◌≡◌, ℕ, zero, suc, ◌≤◌, ◌==◌, Bool, true, false, [], ◌∷◌, length, Option, Some, None, if◌then◌else◌, refl, ap, arith}
 use Rattle.actx_event.specs.declared.event.Event.{Event}
 use Rattle.actx_event.specs.declared.event.Event.TheVariants.{Before, Enter}
 use Rattle.actx_event.specs.Event.{is_number, resource_made, capture_made, closed_bracket, value_bound}
 use Rattle.actx_event.specs.Front.{Front, place_before}
-use Rattle.actx_event.specs.Brackets.{opened, before_opener}
-use Rattle.actx_event.specs.Walk.{place_named, causal_step, Met, met_here, met_within, met_binding}
+use Rattle.actx_event.specs.Brackets.{opened}
+use Rattle.actx_event.specs.Walk.{place_named, causal_step, met_here, met_within, met_binding}
 use Rattle.actx_event.specs.Agreement.{BothOrNeither, SameBrackets}
 use Rattle.actx_event.proofs.Matching.{both_or, both_if, both_unwrap, same_after, same_opener, same_weaken, both_weaken}
 

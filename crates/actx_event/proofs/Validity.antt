@@ -1,7 +1,7 @@
 -- What it means that a log is valid, and that a failure is the first.
-use Rattle.std.proofs.Common.{◌≡◌, ℕ, zero, suc, ◌+◌, ◌<◌, ◌≤◌, ◌==◌, Bool, true, false, ◌&&◌, List, [], ◌∷◌, ◌++◌, length, take, drop, reverse, Option, Some, None, option_to_list, if◌then◌else◌, refl, sym, ap, ap₂, ◌∙◌, subst, arith, take-append-drop, take_all}
+use Rattle.std.proofs.Common.{◌≡◌, ℕ, zero, suc, ◌<◌, ◌≤◌, Bool, true, false, ◌&&◌, List, [], ◌∷◌, ◌++◌, length, take, drop, reverse, Option, Some, None, option_to_list, refl, sym, ap, ap₂, ◌∙◌, arith, take-append-drop, take_all}
 use Rattle.std.proofs.lemmas.List.{reverse-append, length-reverse}
-use Rattle.std.specs.Prelude.{slice_get, is_some, ◌↔◌}
+use Rattle.std.specs.Prelude.{slice_get, ◌↔◌}
 use Rattle.std.specs.Option.{option_or}
 use Rattle.actx_event.specs.declared.value.Shown.{Shown}
 use Rattle.actx_event.specs.declared.event.VarId.{VarId}
@@ -11,14 +11,13 @@ use Rattle.actx_event.specs.declared.bracket.Open.{Open}
 use Rattle.actx_event.specs.declared.valid.Failure.{Failure}
 use Rattle.actx_event.specs.declared.valid.Rule.{Rule}
 use Rattle.actx_event.specs.declared.valid.Rule.TheVariants.{Numbering, Introduction, Nesting, Execution, Reading, Closing}
-use Rattle.actx_event.specs.Event.{closed_bracket}
 use Rattle.actx_event.specs.Front.{Front, front}
-use Rattle.actx_event.specs.Brackets.{opened, has_opener, nests, IsClosed}
+use Rattle.actx_event.specs.Brackets.{opened, nests, IsClosed}
 use Rattle.actx_event.specs.Walk.{nearest_binding}
-use Rattle.actx_event.specs.Valid.{is_numbered, is_introduced, is_nested, is_executed, is_read, unless, broken_rule, failure_at, first_broken, left_open, failure_before, first_failure, IsValid}
+use Rattle.actx_event.specs.Valid.{is_numbered, is_introduced, is_nested, is_executed, is_read, unless, broken_rule, failure_at, first_broken, left_open, first_failure, IsValid}
 use Rattle.actx_event.specs.Laws.{MeetsRules, MeetsAll, UnbrokenBelow}
 use Rattle.actx_event.proofs.SameValue.{value_is}
-use Rattle.actx_event.proofs.ByNumber.{Has, has, front_suc, front_length}
+use Rattle.actx_event.proofs.ByNumber.{has, front_suc, front_length}
 
 -- a rule that is broken nowhere
 unless_none : (t : Bool) (r : Rule) (later : Option Rule) → unless t r later ≡ None → (t ≡ true) × (later ≡ None)

@@ -6,11 +6,11 @@ use Rattle.actx_event.specs.declared.event.Event.{Event}
 use Rattle.actx_event.specs.Event.{value_bound, binds}
 use Rattle.actx_event.specs.Front.{Front, front}
 use Rattle.actx_event.specs.Walk.{causal_step, Met, met_here, met_within, met_binding, walk_within, chain}
-use Rattle.actx_event.specs.Numbers.{step_behind, step_number, binds_at, met_number_within, met_number, walk_number_within, chain_at}
+use Rattle.actx_event.specs.Numbers.{step_number, binds_at, met_number_within, met_number, walk_number_within, chain_at}
 use Rattle.actx_event.specs.Agreement.{BothOrNeither}
 use Rattle.actx_event.specs.Laws.{number_of}
 use Rattle.actx_event.proofs.Matching.{both_weaken}
-use Rattle.actx_event.proofs.ByNumber.{AtNumber, Has, has, front_suc, front_length, step_at, step_less}
+use Rattle.actx_event.proofs.ByNumber.{has, front_suc, front_length, step_at, step_less}
 
 -- number n, below p, is that of the event that was met
 pub record MetAt (log : List Event) (v p n : ℕ) (m : Met) : Type 0 where

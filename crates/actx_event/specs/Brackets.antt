@@ -1,6 +1,6 @@
 -- Brackets. `before`, `enter` and `bind` open one; `after`, `leave` and `unbind` close it (the
 -- before and after hooks of Node's async_hooks; AsyncContextSwap and its undoing in the AsyncContext
--- proposal).
+-- proposal). A job runs when no execution context is left (ECMA-262 §9.5), so brackets nest.
 use Rattle.std.specs.Prelude.{◌≡◌, ◌==◌, Bool, true, false, ◌&&◌, List, [], ◌∷◌, ◌++◌, Option, Some, None, is_some, if◌then◌else◌}
 use Rattle.actx_event.specs.declared.event.Event.{Event}
 use Rattle.actx_event.specs.declared.bracket.Bracket.{Bracket}

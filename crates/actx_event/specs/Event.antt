@@ -97,7 +97,8 @@ pub record Declaration : Type 0 where
 
 -- the kind and the default that it says of the variable that it makes
 abbrev pub declaration_said : Event → Option (Noted Declaration)
-declaration_said (Var id kind name default) = Some (record { number = id.0; noted = record { kind = kind; default = default } })
+declaration_said (Var id kind name default) =
+    Some (record { number = id.0; noted = record { kind = kind; default = default } })
 declaration_said _ = None
 
 -- the resource that it names as one that was made before

@@ -17,7 +17,8 @@ front log p = reverse (take p log)
 -- the place before the first event that makes number i, where there is one
 abbrev pub place_before : (Event → Option ℕ) → ℕ → Front → Option Front
 place_before makes i [] = None
-place_before makes i (e ∷ es) = option_or (place_before makes i es) (if is_number i (makes e) then Some es else None)
+place_before makes i (e ∷ es) =
+    option_or (place_before makes i es) (if is_number i (makes e) then Some es else None)
 
 -- what the first event that speaks of number i says of it
 abbrev pub first_said : {A : Type 0} → (Event → Option (Noted A)) → ℕ → Front → Option A

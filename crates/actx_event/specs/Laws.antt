@@ -5,7 +5,6 @@ use Rattle.actx_event.specs.declared.event.VarId.{VarId}
 use Rattle.actx_event.specs.declared.event.Event.{Event}
 use Rattle.actx_event.specs.declared.event.Event.TheVariants.{Get}
 use Rattle.actx_event.specs.declared.bracket.Open.{Open}
-use Rattle.actx_event.specs.declared.valid.Failure.{Failure}
 use Rattle.actx_event.specs.declared.valid.Rule.{Rule}
 use Rattle.actx_event.specs.declared.valid.Rule.TheVariants.{Closing}
 use Rattle.actx_event.specs.Front.{Front, front}
@@ -28,7 +27,8 @@ CarriedAgrees = (es : Front) → Agreement es (carried es)
 
 -- every event keeps the agreement
 abbrev pub EachEventKeepsAgreement : Type 0
-EachEventKeepsAgreement = (e : Event) (es : Front) (c : Carried) → Agreement es c → Agreement (e ∷ es) (carried_after e c)
+EachEventKeepsAgreement =
+    (e : Event) (es : Front) (c : Carried) → Agreement es c → Agreement (e ∷ es) (carried_after e c)
 
 -- the value that is carried for a read is the nearest binding's
 abbrev pub ReadsAreNearest : Type 0
@@ -47,11 +47,14 @@ DeclarationIsFirst = (es : Front) (v : ℕ) → carried_declaration (carried es)
 
 -- a state that stands for another still does so after the same event
 abbrev pub EachEventKeepsStanding : Type 0
-EachEventKeepsStanding = (e : Event) (d c : Carried) → StandsFor d c → StandsFor (carried_after e d) (carried_after e c)
+EachEventKeepsStanding =
+    (e : Event) (d c : Carried) → StandsFor d c → StandsFor (carried_after e d) (carried_after e c)
 
 -- and it gives each read the same value, and the same execution identifier and trigger
 abbrev pub StandingGivesSame : Type 0
-StandingGivesSame = (d c : Carried) → StandsFor d c → ((v : ℕ) → carried_value d v ≡ carried_value c v) × (carried_exec d ≡ carried_exec c) × (carried_trigger d ≡ carried_trigger c)
+StandingGivesSame =
+    (d c : Carried) → StandsFor d c →
+    ((v : ℕ) → carried_value d v ≡ carried_value c v) × (carried_exec d ≡ carried_exec c) × (carried_trigger d ≡ carried_trigger c)
 
 -- the newest entries of a mapping are enough
 abbrev pub NewestEntriesSuffice : Type 0
@@ -63,7 +66,9 @@ StepsGoDown = (e : Event) (es : Front) → length (causal_step (e ∷ es)) ≤ l
 
 -- a step by number is below its place, and leads to the place that the step on fronts leads to
 abbrev pub StepsAgree : Type 0
-StepsAgree = (log : List Event) (n : ℕ) → n < length log → (step_number log (suc n) ≤ n) × (front log (step_number log (suc n)) ≡ causal_step (front log (suc n)))
+StepsAgree =
+    (log : List Event) (n : ℕ) → n < length log →
+    (step_number log (suc n) ≤ n) × (front log (step_number log (suc n)) ≡ causal_step (front log (suc n)))
 
 -- an open bracket, with the number of the place before its opener
 abbrev pub numbered : Open Front → Open ℕ
@@ -71,7 +76,8 @@ numbered o = record { bracket = o.bracket; before = length o.before }
 
 -- the open brackets by number are those on fronts
 abbrev pub OpenedAgree : Type 0
-OpenedAgree = (log : List Event) (p : ℕ) → p ≤ length log → map numbered (opened (front log p)) ≡ opened_at log p
+OpenedAgree =
+    (log : List Event) (p : ℕ) → p ≤ length log → map numbered (opened (front log p)) ≡ opened_at log p
 
 -- the number of the event that was met
 abbrev pub number_of : Option Met → Option ℕ
@@ -79,7 +85,9 @@ number_of m = option_map (λ x. length x.place) m
 
 -- the binding that is met by number is the one that is met on fronts
 abbrev pub MetAgree : Type 0
-MetAgree = (log : List Event) (p v : ℕ) → p ≤ length log → number_of (met_binding (front log p) v) ≡ met_number log p v
+MetAgree =
+    (log : List Event) (p v : ℕ) → p ≤ length log →
+    number_of (met_binding (front log p) v) ≡ met_number log p v
 
 -- the walk by numbers: it ends at the start, it looks at event n from place n + 1, and it goes on from
 -- where the step leads
@@ -87,15 +95,20 @@ abbrev pub WalkEnds : Type 0
 WalkEnds = (log : List Event) (v : ℕ) → met_number log 0 v ≡ None
 
 abbrev pub WalkGoesOn : Type 0
-WalkGoesOn = (log : List Event) (n v : ℕ) → n < length log → met_number log (suc n) v ≡ (if binds_at v (slice_get log n) then Some n else met_number log (step_number log (suc n)) v)
+WalkGoesOn =
+    (log : List Event) (n v : ℕ) → n < length log →
+    met_number log (suc n) v ≡
+    (if binds_at v (slice_get log n) then Some n else met_number log (step_number log (suc n)) v)
 
 -- the nearest binding by numbers is the one on fronts
 abbrev pub NearestAgree : Type 0
-NearestAgree = (log : List Event) (p v : ℕ) → p ≤ length log → nearest_binding (front log p) v ≡ nearest_at log p v
+NearestAgree =
+    (log : List Event) (p v : ℕ) → p ≤ length log → nearest_binding (front log p) v ≡ nearest_at log p v
 
 -- and so is the chain
 abbrev pub ChainsAgree : Type 0
-ChainsAgree = (log : List Event) (p v : ℕ) → p ≤ length log → map length (chain (front log p) v) ≡ chain_at log p v
+ChainsAgree =
+    (log : List Event) (p v : ℕ) → p ≤ length log → map length (chain (front log p) v) ≡ chain_at log p v
 
 -- an event meets each rule at its place
 pub record MeetsRules (e : Event) (es : Front) : Type 0 where
@@ -116,7 +129,9 @@ ValidWhereRulesMet = (log : List Event) → IsValid log ↔ MeetsAll log
 
 -- in a valid log each `get` says the nearest binding's value
 abbrev pub ValidReadsAreNearest : Type 0
-ValidReadsAreNearest = (log : List Event) (n : ℕ) (id : VarId) (value : Shown) → IsValid log → slice_get log n ≡ Some (Get id value) → value ≡ nearest_binding (front log n) id.0
+ValidReadsAreNearest =
+    (log : List Event) (n : ℕ) (id : VarId) (value : Shown) → IsValid log →
+    slice_get log n ≡ Some (Get id value) → value ≡ nearest_binding (front log n) id.0
 
 -- in a valid log each closing event has an opener, and nothing is open at the end
 abbrev pub ValidLogsAreClosed : Type 0
@@ -124,12 +139,19 @@ ValidLogsAreClosed = (log : List Event) → IsValid log → IsClosed (reverse lo
 
 -- no event below n breaks a rule
 abbrev pub UnbrokenBelow : List Event → ℕ → Type 0
-UnbrokenBelow log n = (m : ℕ) (e : Event) → m < n → slice_get log m ≡ Some e → broken_rule e (front log m) ≡ None
+UnbrokenBelow log n =
+    (m : ℕ) (e : Event) → m < n → slice_get log m ≡ Some e → broken_rule e (front log m) ≡ None
 
 -- the first failure is that of the first event that breaks a rule, and its first rule
 abbrev pub FailureIsFirst : Type 0
-FailureIsFirst = (log : List Event) (n : ℕ) (e : Event) (r : Rule) → UnbrokenBelow log n → slice_get log n ≡ Some e → broken_rule e (front log n) ≡ Some r → first_failure log ≡ Some (record { place = n; rule = r })
+FailureIsFirst =
+    (log : List Event) (n : ℕ) (e : Event) (r : Rule) →
+    UnbrokenBelow log n → slice_get log n ≡ Some e → broken_rule e (front log n) ≡ Some r →
+    first_failure log ≡ Some (record { place = n; rule = r })
 
 -- where no event breaks a rule, only what is left open fails, at the number of events
 abbrev pub ClosingFailsLast : Type 0
-ClosingFailsLast = (log : List Event) (o : Open Front) (os : List (Open Front)) → UnbrokenBelow log (length log) → opened (reverse log) ≡ o ∷ os → first_failure log ≡ Some (record { place = length log; rule = Closing })
+ClosingFailsLast =
+    (log : List Event) (o : Open Front) (os : List (Open Front)) →
+    UnbrokenBelow log (length log) → opened (reverse log) ≡ o ∷ os →
+    first_failure log ≡ Some (record { place = length log; rule = Closing })

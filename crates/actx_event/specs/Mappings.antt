@@ -4,7 +4,6 @@
 -- record for each variable; here a mapping keeps the older ones too, each with its epoch.
 use Rattle.std.specs.Prelude.{ℕ, suc, ◌==◌, List, [], ◌∷◌, Option, Some, None, unwrap_or, if◌then◌else◌}
 use Rattle.actx_event.specs.declared.value.Shown.{Shown}
-use Rattle.actx_event.specs.declared.event.VarKind.{VarKind}
 use Rattle.actx_event.specs.declared.event.Event.{Event}
 use Rattle.actx_event.specs.declared.event.Event.TheVariants.{Before, Enter}
 use Rattle.actx_event.specs.declared.bracket.Open.{Open}
@@ -42,7 +41,8 @@ pub record Carried : Type 0 where
 
 -- what is carried before the first event
 abbrev pub none_carried : Carried
-none_carried = record { current = []; saved = []; resources = []; captures = []; triggers = []; declarations = []; offs = [] }
+none_carried =
+    record { current = []; saved = []; resources = []; captures = []; triggers = []; declarations = []; offs = [] }
 
 -- how often v stands in a list
 abbrev pub times : ℕ → List ℕ → ℕ
@@ -59,7 +59,8 @@ mapping_named e c = before_opener (closed_bracket e) c.saved
 -- a mapping with a further binding
 abbrev pub with_binding : Option Binding → List ℕ → Mapping → Mapping
 with_binding None offs m = m
-with_binding (Some b) offs m = record { variable = b.variable; value = b.value; epoch = times b.variable offs } ∷ m
+with_binding (Some b) offs m =
+    record { variable = b.variable; value = b.value; epoch = times b.variable offs } ∷ m
 
 -- a mapping kept under a number
 abbrev pub kept_under : Option ℕ → Mapping → Option (Noted Mapping)

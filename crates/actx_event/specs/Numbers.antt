@@ -25,7 +25,9 @@ opened_at log (suc n) = opened_behind (slice_get log n) n (opened_at log n)
 -- the number of the first event below p that makes number i
 abbrev pub first_made : (Event → Option ℕ) → ℕ → List Event → ℕ → Option ℕ
 first_made makes i log zero = None
-first_made makes i log (suc n) = option_or (first_made makes i log n) (if is_number i (option_and_then makes (slice_get log n)) then Some n else None)
+first_made makes i log (suc n) =
+    option_or (first_made makes i log n)
+    (if is_number i (option_and_then makes (slice_get log n)) then Some n else None)
 
 -- the place that event n leads back to
 abbrev pub place_number_named : Event → List Event → ℕ → Option ℕ
@@ -50,7 +52,8 @@ binds_at v (Some e) = binds v e
 abbrev pub met_number_within : ℕ → List Event → ℕ → ℕ → Option ℕ
 met_number_within zero log p v = None
 met_number_within (suc k) log zero v = None
-met_number_within (suc k) log (suc n) v = if binds_at v (slice_get log n) then Some n else met_number_within k log (step_number log (suc n)) v
+met_number_within (suc k) log (suc n) v =
+    if binds_at v (slice_get log n) then Some n else met_number_within k log (step_number log (suc n)) v
 
 -- the number of the first binding of v that the walk from place p looks at
 unfoldable pub met_number : List Event → ℕ → ℕ → Option ℕ
@@ -59,16 +62,20 @@ met_number log p v = met_number_within p log p v
 -- whether an `off v` stands in the log between event m and place p
 abbrev pub is_off_between : ℕ → List Event → ℕ → ℕ → Bool
 is_off_between v log m zero = false
-is_off_between v log m (suc n) = is_off_between v log m n || nat_le m n && is_number v (option_and_then switched_off (slice_get log n))
+is_off_between v log m (suc n) =
+    is_off_between v log m n || nat_le m n && is_number v (option_and_then switched_off (slice_get log n))
 
 -- what v is said to be below p
 abbrev pub declaration_at : ℕ → List Event → ℕ → Option Declaration
 declaration_at v log zero = None
-declaration_at v log (suc n) = option_or (declaration_at v log n) (noted_under v (option_and_then declaration_said (slice_get log n)))
+declaration_at v log (suc n) =
+    option_or (declaration_at v log n) (noted_under v (option_and_then declaration_said (slice_get log n)))
 
 abbrev pub value_at : Option ℕ → List Event → ℕ → ℕ → Shown
 value_at None log p v = default_of (declaration_at v log p)
-value_at (Some m) log p v = if is_off_between v log m p then left_by_off (declaration_at v log p) else unwrap_or (option_and_then (value_bound v) (slice_get log m)) Undefined
+value_at (Some m) log p v =
+    if is_off_between v log m p then left_by_off (declaration_at v log p)
+    else unwrap_or (option_and_then (value_bound v) (slice_get log m)) Undefined
 
 -- the nearest binding's value at place p
 abbrev pub nearest_at : List Event → ℕ → ℕ → Shown
@@ -79,7 +86,8 @@ nearest_at log p v = value_at (met_number log p v) log p v
 abbrev pub walk_number_within : ℕ → List Event → ℕ → ℕ → List ℕ
 walk_number_within zero log p v = []
 walk_number_within (suc k) log zero v = []
-walk_number_within (suc k) log (suc n) v = n ∷ (if binds_at v (slice_get log n) then [] else walk_number_within k log (step_number log (suc n)) v)
+walk_number_within (suc k) log (suc n) v =
+    n ∷ (if binds_at v (slice_get log n) then [] else walk_number_within k log (step_number log (suc n)) v)
 
 unfoldable pub chain_at : List Event → ℕ → ℕ → List ℕ
 chain_at log p v = walk_number_within p log p v

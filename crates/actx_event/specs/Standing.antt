@@ -1,6 +1,6 @@
 -- A state that keeps less than the fold over all events may stand for it: a mapping needs only the
 -- newest entry of each variable, and a list of notes only the first under each number.
-use Rattle.std.specs.Prelude.{◌≡◌, ℕ, ◌==◌, List, [], ◌∷◌, if◌then◌else◌}
+use Rattle.std.specs.Prelude.{◌≡◌, ℕ, ◌==◌, [], ◌∷◌, if◌then◌else◌}
 use Rattle.actx_event.specs.Noted.{first_noted}
 use Rattle.actx_event.specs.Agreement.{BothOrNeither, SameBrackets}
 use Rattle.actx_event.specs.Mappings.{Mapping, first_entry, times, Carried}

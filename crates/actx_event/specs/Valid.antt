@@ -1,6 +1,6 @@
 -- Which logs are valid, and the first failure of one that isn't. The rules speak of each event and of
 -- the events before it; a log may come from anywhere.
-use Rattle.std.specs.Prelude.{◌≡◌, ℕ, suc, ◌==◌, ℤ, pos, negsuc, Bool, true, false, ◌&&◌, List, [], ◌∷◌, length, reverse, Option, Some, None, is_some, option_map, if◌then◌else◌}
+use Rattle.std.specs.Prelude.{◌≡◌, ℕ, suc, ◌==◌, ℤ, pos, negsuc, Bool, true, false, ◌&&◌, List, [], ◌∷◌, length, reverse, Option, Some, None, is_some, if◌then◌else◌}
 use Rattle.std.specs.Option.{option_or}
 use Rattle.actx_event.specs.declared.value.Shown.{Shown}
 use Rattle.actx_event.specs.declared.value.Shown.TheVariants.{Undefined, Null, Bool as Truth, Num, Text, Made, Native}
@@ -14,6 +14,15 @@ use Rattle.actx_event.specs.Front.{Front, place_before}
 use Rattle.actx_event.specs.Brackets.{opened, has_opener}
 use Rattle.actx_event.specs.Execution.{exec}
 use Rattle.actx_event.specs.Walk.{nearest_binding}
+
+-- the rules are numbered in the order in which they are looked at
+abbrev pub rule_number : Rule → ℕ
+rule_number Numbering = 1
+rule_number Introduction = 2
+rule_number Nesting = 3
+rule_number Execution = 4
+rule_number Reading = 5
+rule_number Closing = 6
 
 -- whether two values are the same
 abbrev pub same_integer : ℤ → ℤ → Bool
@@ -54,7 +63,9 @@ is_next (Some i) n = i == suc n
 -- the k-th resource, capture and variable have number k
 abbrev pub is_numbered : Event → Front → Bool
 is_numbered e es =
-    is_next (resource_made e) (made_count resource_made es) && is_next (capture_made e) (made_count capture_made es) && is_next (variable_made e) (made_count variable_made es)
+    is_next (resource_made e) (made_count resource_made es) &&
+    is_next (capture_made e) (made_count capture_made es) &&
+    is_next (variable_made e) (made_count variable_made es)
 
 -- whether a number was made before
 abbrev pub was_made : (Event → Option ℕ) → Option ℕ → Front → Bool
@@ -64,7 +75,9 @@ was_made makes (Some i) es = is_some (place_before makes i es)
 -- what an event names was made before
 abbrev pub is_introduced : Event → Front → Bool
 is_introduced e es =
-    was_made resource_made (resource_named e) es && was_made capture_made (capture_named e) es && was_made variable_made (variable_named e) es
+    was_made resource_made (resource_named e) es &&
+    was_made capture_made (capture_named e) es &&
+    was_made variable_made (variable_named e) es
 
 -- a closing event has an opener
 abbrev pub is_nested : Event → Front → Bool

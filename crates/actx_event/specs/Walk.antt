@@ -3,7 +3,7 @@
 -- a closed run what came before it (links and causes after Loring, Marron and Leijen, "Semantics of
 -- Asynchronous JavaScript", 2017; the mapping of the AsyncContext proposal, AsyncContextSnapshot and
 -- AsyncContextSwap).
-use Rattle.std.specs.Prelude.{ℕ, zero, suc, ◌==◌, Bool, List, [], ◌∷◌, length, Option, Some, None, unwrap_or, if◌then◌else◌}
+use Rattle.std.specs.Prelude.{ℕ, zero, suc, ◌==◌, List, [], ◌∷◌, length, Option, Some, None, unwrap_or, if◌then◌else◌}
 use Rattle.actx_event.specs.declared.value.Shown.{Shown}
 use Rattle.actx_event.specs.declared.value.Shown.TheVariants.{Undefined}
 use Rattle.actx_event.specs.declared.event.Event.{Event}

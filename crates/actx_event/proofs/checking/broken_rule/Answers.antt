@@ -1,8 +1,6 @@
-use Rattle.std.proofs.Common.{◌≡◌, ◌∙◌, sym, ap, true, false}
+use Rattle.std.proofs.Common.{◌≡◌, ◌∙◌, sym}
 use Rattle.actx_event.specs.Event.{closed_bracket}
 use Rattle.actx_event.specs.Front.{front}
-use Rattle.actx_event.specs.Brackets.{has_opener, opened}
-use Rattle.actx_event.specs.Numbers.{opened_at}
 use Rattle.actx_event.specs.Valid.{is_nested}
 use Rattle.actx_event.proofs.Standing.{opener_number}
 use Rattle.actx_event.proofs.Rules.{nesting_broken, none_broken}

@@ -1,6 +1,5 @@
 use Rattle.std.proofs.Common.{◌≡◌, ◌∙◌, sym, ap, reverse, length, Some, None, arith}
 use Rattle.actx_event.specs.Front.{front}
-use Rattle.actx_event.specs.Numbers.{opened_at}
 use Rattle.actx_event.specs.Valid.{broken_rule, left_open}
 use Rattle.actx_event.proofs.Standing.{opened_more}
 use Rattle.actx_event.proofs.Validity.{fails_at}

@@ -1,6 +1,5 @@
 use Rattle.std.proofs.Common.{◌≡◌, ◌∙◌, sym, ap}
 use Rattle.actx_event.specs.Front.{front}
-use Rattle.actx_event.specs.Walk.{nearest_binding}
 use Rattle.actx_event.specs.Valid.{same_value, is_read}
 use Rattle.actx_event.proofs.SameValue.{value_test}
 use Rattle.actx_event.proofs.checking.is_read.Goals as goal

@@ -1,5 +1,3 @@
-use Rattle.std.proofs.Common.{◌∙◌, ap, reverse}
-use Rattle.actx_event.specs.Execution.{innermost}
 use Rattle.actx_event.proofs.Standing.{exec_number}
 use Rattle.actx_event.proofs.open_brackets.exec.Goals as goal
 

@@ -1,4 +1,4 @@
-use Rattle.std.proofs.Common.{◌≡◌, ◌∙◌, sym, ap, false, true, ◌+◌}
+use Rattle.std.proofs.Common.{◌≡◌, ◌∙◌, sym, false, true, ◌+◌}
 use Rattle.actx_event.specs.Event.{closed_bracket}
 use Rattle.actx_event.specs.Brackets.{has_opener}
 use Rattle.actx_event.specs.Numbers.{opened_at}

@@ -1,4 +1,4 @@
-use Rattle.std.proofs.Common.{◌≡◌, ◌<◌, ◌≤◌, ◌∙◌, sym, ap, true, false, length, arith}
+use Rattle.std.proofs.Common.{◌≡◌, ◌<◌, ◌∙◌, sym, ap, true, false, arith}
 use Rattle.actx_event.specs.Event.{binds}
 use Rattle.actx_event.specs.Numbers.{step_number, met_number}
 use Rattle.actx_event.proofs.WalkByNumber.{met_number_none}

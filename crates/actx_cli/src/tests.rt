@@ -4,24 +4,25 @@ use std::alloc::Global;
 use std::process::Abort;
 use std::test::Fail;
 
-// A call: its words, what `f.js` holds, and which fetches, writes and reports fail.
+// A call: its words, what `f.js` holds, how many bytes a write takes, and which fetch, which write to
+// standard output and which to standard error fails.
 #[derive(Clone, Copy)]
 struct Case<'a> {
     words: &'a [&'a str],
     file: &'a [u8],
     cut: usize,
-    fetches: &'a [u64],
-    writes: &'a [u64],
-    reports: &'a [u64],
+    fetch: Option<u64>,
+    write: Option<u64>,
+    report: Option<u64>,
 }
 
 const RUN: Case<'static> = Case {
     words: &["run", "f.js"],
     file: b"",
     cut: 1000,
-    fetches: &[],
-    writes: &[],
-    reports: &[],
+    fetch: None,
+    write: None,
+    report: None,
 };
 
 // What a call came to.
@@ -30,6 +31,15 @@ struct Seen {
     status: u8,
     out: Vec<u8>,
     err: Vec<u8>,
+}
+
+// The number of the one that fails, or no number.
+fn listed(alloc: Global, number: Option<u64>) -> Result<Vec<u64>, Fail> {
+    let mut numbers = Vec::new(alloc);
+    if let Some(number) = number {
+        numbers.push(number)?;
+    }
+    Ok(numbers)
 }
 
 fn call(alloc: Global, case: &Case<'_>) -> Result<Seen, Fail> {
@@ -42,13 +52,9 @@ fn call(alloc: Global, case: &Case<'_>) -> Result<Seen, Fail> {
         String::from_str(alloc, "f.js")?,
         Vec::from_slice(alloc, case.file)?,
     ))?;
-    let mut shelf = ListShelf::new(alloc, files, Vec::from_slice(alloc, case.fetches)?);
-    let mut out = MemSink::new(alloc, case.cut.max(1), Vec::from_slice(alloc, case.writes)?);
-    let mut err = MemSink::new(
-        alloc,
-        case.cut.max(1),
-        Vec::from_slice(alloc, case.reports)?,
-    );
+    let mut shelf = ListShelf::new(alloc, files, listed(alloc, case.fetch)?);
+    let mut out = MemSink::new(alloc, case.cut.max(1), listed(alloc, case.write)?);
+    let mut err = MemSink::new(alloc, case.cut.max(1), listed(alloc, case.report)?);
     let mut tape = ClockTape::new();
     let status = actx(alloc, &words, &mut shelf, &mut out, &mut err, &mut tape);
     Ok(Seen {
@@ -125,20 +131,20 @@ fn files_that_are_refused(rt: HostRuntime) -> Result<(), Fail> {
     Ok(())
 }
 
+// These words are refused, and nothing is printed.
+fn check_usage(rt: &(impl Abort + AllocGlobal), words: &[&str]) -> Result<(), Fail> {
+    check(rt, &Case { words, ..RUN }, 64, b"", b"actx: usage\n")
+}
+
 #[test]
 fn words_that_are_no_command_line(rt: HostRuntime) -> Result<(), Fail> {
-    for words in [
-        [].as_slice(),
-        ["run"].as_slice(),
-        ["run", ""].as_slice(),
-        ["run", "-f.js"].as_slice(),
-        ["run", "f.js", "f.js"].as_slice(),
-        ["walk", "f.js"].as_slice(),
-        ["Run", "f.js"].as_slice(),
-    ] {
-        check(&rt, &Case { words, ..RUN }, 64, b"", b"actx: usage\n")?;
-    }
-    Ok(())
+    check_usage(&rt, &[])?;
+    check_usage(&rt, &["run"])?;
+    check_usage(&rt, &["run", ""])?;
+    check_usage(&rt, &["run", "-f.js"])?;
+    check_usage(&rt, &["run", "f.js", "f.js"])?;
+    check_usage(&rt, &["walk", "f.js"])?;
+    check_usage(&rt, &["Run", "f.js"])
 }
 
 #[test]
@@ -151,7 +157,7 @@ fn files_that_cannot_be_read(rt: HostRuntime) -> Result<(), Fail> {
     check(&rt, &lacking, 66, b"", line)?;
     let failing = Case {
         file: b"console.log();",
-        fetches: &[0],
+        fetch: Some(0),
         ..RUN
     };
     check(&rt, &failing, 66, b"", line)
@@ -190,7 +196,7 @@ fn a_file_that_is_too_long(rt: HostRuntime) -> Result<(), Fail> {
 fn the_second_write_fails(rt: HostRuntime) -> Result<(), Fail> {
     let case = Case {
         file: b"console.log(1); console.log(2);",
-        writes: &[1],
+        write: Some(1),
         ..RUN
     };
     check(&rt, &case, 74, b"1\n", b"actx: write fault\n")
@@ -204,7 +210,7 @@ fn each_write_fails_in_turn(rt: HostRuntime) -> Result<(), Fail> {
         let case = Case {
             file: b"console.log('a', 12); console.log(true);",
             cut: 1,
-            writes: &[place as u64],
+            write: Some(place as u64),
             ..RUN
         };
         check(&rt, &case, 74, &text[..place], b"actx: write fault\n")?;
@@ -212,30 +218,39 @@ fn each_write_fails_in_turn(rt: HostRuntime) -> Result<(), Fail> {
     Ok(())
 }
 
-// The line of a refusal likewise: the status is then that of a failed write.
+// With one byte a write, this write of a refusal's line fails: standard error gained what stands before.
+fn check_report(
+    rt: &(impl Abort + AllocGlobal),
+    words: &[&str],
+    place: u64,
+    gained: &[u8],
+) -> Result<(), Fail> {
+    let case = Case {
+        words,
+        cut: 1,
+        report: Some(place),
+        ..RUN
+    };
+    check(rt, &case, 74, b"", gained)
+}
+
+// Each of them in turn.
+fn check_reports(rt: &(impl Abort + AllocGlobal), words: &[&str], line: &[u8]) -> Result<(), Fail> {
+    for place in 0..line.len() {
+        check_report(rt, words, place as u64, &line[..place])?;
+    }
+    Ok(())
+}
+
+// Where the line of a refusal isn't taken whole, the status is that of a failed write.
 #[test]
 fn each_report_fails_in_turn(rt: HostRuntime) -> Result<(), Fail> {
-    for (words, line) in [
-        (["run"].as_slice(), b"actx: usage\n".as_slice()),
-        (
-            ["run", "g.js"].as_slice(),
-            b"actx: cannot read\n".as_slice(),
-        ),
-    ] {
-        for place in 0..line.len() {
-            let case = Case {
-                words,
-                cut: 1,
-                reports: &[place as u64],
-                ..RUN
-            };
-            check(&rt, &case, 74, b"", &line[..place])?;
-        }
-    }
+    check_reports(&rt, &["run"], b"actx: usage\n")?;
+    check_reports(&rt, &["run", "g.js"], b"actx: cannot read\n")?;
     let both = Case {
         file: b"console.log(1);",
-        writes: &[0],
-        reports: &[0],
+        write: Some(0),
+        report: Some(0),
         ..RUN
     };
     check(&rt, &both, 74, b"", b"")

@@ -1,9 +1,9 @@
 -- What the levels of each kind of expression, pattern, function and class, and of their parts are.
-use Rattle.std.proofs.Common.{◌≡◌, ℕ, ℤ, Bool, suc, max, List, Option, Some, None, map}
+use Rattle.std.proofs.Common.{◌≡◌, subst, ℕ, ℤ, Bool, suc, max, List, Option, Some, None, map}
 use Rattle.actx_text.specs.declared.units.Units.{Units}
 use Rattle.actx_tree.specs.declared.expr.Expr.{Expr, the_lemmas}
 use Rattle.actx_tree.specs.declared.expr.Expr.TheVariants as e
-use Rattle.actx_tree.specs.declared.expr.Piece.{Piece}
+use Rattle.actx_tree.specs.declared.expr.Piece.{Piece, out-Piece, roll-out-Piece}
 use Rattle.actx_tree.specs.declared.expr.Argument.{Argument}
 use Rattle.actx_tree.specs.declared.expr.Argument.TheVariants as argument
 use Rattle.actx_tree.specs.declared.expr.Entry.{Entry}
@@ -12,17 +12,17 @@ use Rattle.actx_tree.specs.declared.expr.Key.{Key}
 use Rattle.actx_tree.specs.declared.expr.Key.TheVariants as key
 use Rattle.actx_tree.specs.declared.expr.Suffix.{Suffix}
 use Rattle.actx_tree.specs.declared.expr.Suffix.TheVariants as suffix
-use Rattle.actx_tree.specs.declared.expr.Operand.{Operand}
-use Rattle.actx_tree.specs.declared.function.Function.{Function}
-use Rattle.actx_tree.specs.declared.function.Method.{Method}
-use Rattle.actx_tree.specs.declared.function.Class.{Class}
-use Rattle.actx_tree.specs.declared.function.Member.{Member}
+use Rattle.actx_tree.specs.declared.expr.Operand.{Operand, out-Operand, roll-out-Operand}
+use Rattle.actx_tree.specs.declared.function.Function.{Function, out-Function, roll-out-Function}
+use Rattle.actx_tree.specs.declared.function.Method.{Method, out-Method, roll-out-Method}
+use Rattle.actx_tree.specs.declared.function.Class.{Class, out-Class, roll-out-Class}
+use Rattle.actx_tree.specs.declared.function.Member.{Member, out-Member, roll-out-Member}
 use Rattle.actx_tree.specs.declared.pattern.Target.{Target}
 use Rattle.actx_tree.specs.declared.pattern.Target.TheVariants as target
 use Rattle.actx_tree.specs.declared.pattern.Prop.{Prop}
 use Rattle.actx_tree.specs.declared.pattern.Prop.TheVariants as prop
-use Rattle.actx_tree.specs.declared.pattern.Elem.{Elem}
-use Rattle.actx_tree.specs.declared.pattern.Params.{Params}
+use Rattle.actx_tree.specs.declared.pattern.Elem.{Elem, out-Elem, roll-out-Elem}
+use Rattle.actx_tree.specs.declared.pattern.Params.{Params, out-Params, roll-out-Params}
 use Rattle.actx_tree.specs.declared.operator.BinaryOp.{BinaryOp}
 use Rattle.actx_tree.specs.declared.operator.UnaryOp.{UnaryOp}
 use Rattle.actx_tree.specs.declared.operator.StepOp.{StepOp}
@@ -252,6 +252,32 @@ unfolding params_levels elem_levels target_levels
 params_levels-Params elems None = simp the_lemmas
 params_levels-Params elems (Some rest) = simp the_lemmas
 
+-- ---- structs, by their fields
+
+pub piece_levels-fields : (whole : Piece) → piece_levels whole ≡ expr_levels (out-Piece whole).value
+piece_levels-fields whole = let e = piece_levels-Piece (out-Piece whole).value (out-Piece whole).after in subst (λ (z : Piece). piece_levels z ≡ expr_levels (out-Piece whole).value) (roll-out-Piece whole) e
+
+pub operand_levels-fields : (whole : Operand) → operand_levels whole ≡ expr_levels (out-Operand whole).right
+operand_levels-fields whole = let e = operand_levels-Operand (out-Operand whole).op (out-Operand whole).right in subst (λ (z : Operand). operand_levels z ≡ expr_levels (out-Operand whole).right) (roll-out-Operand whole) e
+
+pub function_levels-fields : (whole : Function) → function_levels whole ≡ suc (params_levels (out-Function whole).params)
+function_levels-fields whole = let e = function_levels-Function (out-Function whole).flow (out-Function whole).name (out-Function whole).params (out-Function whole).body in subst (λ (z : Function). function_levels z ≡ suc (params_levels (out-Function whole).params)) (roll-out-Function whole) e
+
+pub method_levels-fields : (whole : Method) → method_levels whole ≡ suc (max (key_levels (out-Method whole).key) (params_levels (out-Method whole).params))
+method_levels-fields whole = let e = method_levels-Method (out-Method whole).flow (out-Method whole).key (out-Method whole).params (out-Method whole).body in subst (λ (z : Method). method_levels z ≡ suc (max (key_levels (out-Method whole).key) (params_levels (out-Method whole).params))) (roll-out-Method whole) e
+
+pub class_levels-fields : (whole : Class) → class_levels whole ≡ suc (max (or_zero expr_levels (out-Class whole).parent) (highest (map member_levels (out-Class whole).members)))
+class_levels-fields whole = let e = class_levels-Class (out-Class whole).name (out-Class whole).parent (out-Class whole).members in subst (λ (z : Class). class_levels z ≡ suc (max (or_zero expr_levels (out-Class whole).parent) (highest (map member_levels (out-Class whole).members)))) (roll-out-Class whole) e
+
+pub member_levels-fields : (whole : Member) → member_levels whole ≡ method_levels (out-Member whole).method
+member_levels-fields whole = let e = member_levels-Member (out-Member whole).is_static (out-Member whole).method in subst (λ (z : Member). member_levels z ≡ method_levels (out-Member whole).method) (roll-out-Member whole) e
+
+pub elem_levels-fields : (whole : Elem) → elem_levels whole ≡ max (target_levels (out-Elem whole).target) (or_zero expr_levels (out-Elem whole).default)
+elem_levels-fields whole = let e = elem_levels-Elem (out-Elem whole).target (out-Elem whole).default in subst (λ (z : Elem). elem_levels z ≡ max (target_levels (out-Elem whole).target) (or_zero expr_levels (out-Elem whole).default)) (roll-out-Elem whole) e
+
+pub params_levels-fields : (whole : Params) → params_levels whole ≡ max (highest (map elem_levels (out-Params whole).elems)) (or_zero target_levels (out-Params whole).rest)
+params_levels-fields whole = let e = params_levels-Params (out-Params whole).elems (out-Params whole).rest in subst (λ (z : Params). params_levels z ≡ max (highest (map elem_levels (out-Params whole).elems)) (or_zero target_levels (out-Params whole).rest)) (roll-out-Params whole) e
+
 -- all of these
 pub ruleset levels_equations = (
   expr_levels-Name,
@@ -306,4 +332,12 @@ pub ruleset levels_equations = (
   prop_levels-Pair,
   elem_levels-Elem,
   params_levels-Params,
+  piece_levels-fields,
+  operand_levels-fields,
+  function_levels-fields,
+  method_levels-fields,
+  class_levels-fields,
+  member_levels-fields,
+  elem_levels-fields,
+  params_levels-fields,
 )

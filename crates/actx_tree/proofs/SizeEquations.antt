@@ -1,9 +1,9 @@
 -- What the size of each kind of expression, pattern, function and class, and of their parts is.
-use Rattle.std.proofs.Common.{◌≡◌, ℕ, ℤ, Bool, suc, ◌+◌, List, Option, Some, None, map}
+use Rattle.std.proofs.Common.{◌≡◌, subst, ℕ, ℤ, Bool, suc, ◌+◌, List, Option, Some, None, map}
 use Rattle.actx_text.specs.declared.units.Units.{Units}
 use Rattle.actx_tree.specs.declared.expr.Expr.{Expr, the_lemmas}
 use Rattle.actx_tree.specs.declared.expr.Expr.TheVariants as e
-use Rattle.actx_tree.specs.declared.expr.Piece.{Piece}
+use Rattle.actx_tree.specs.declared.expr.Piece.{Piece, out-Piece, roll-out-Piece}
 use Rattle.actx_tree.specs.declared.expr.Argument.{Argument}
 use Rattle.actx_tree.specs.declared.expr.Argument.TheVariants as argument
 use Rattle.actx_tree.specs.declared.expr.Entry.{Entry}
@@ -12,17 +12,17 @@ use Rattle.actx_tree.specs.declared.expr.Key.{Key}
 use Rattle.actx_tree.specs.declared.expr.Key.TheVariants as key
 use Rattle.actx_tree.specs.declared.expr.Suffix.{Suffix}
 use Rattle.actx_tree.specs.declared.expr.Suffix.TheVariants as suffix
-use Rattle.actx_tree.specs.declared.expr.Operand.{Operand}
-use Rattle.actx_tree.specs.declared.function.Function.{Function}
-use Rattle.actx_tree.specs.declared.function.Method.{Method}
-use Rattle.actx_tree.specs.declared.function.Class.{Class}
-use Rattle.actx_tree.specs.declared.function.Member.{Member}
+use Rattle.actx_tree.specs.declared.expr.Operand.{Operand, out-Operand, roll-out-Operand}
+use Rattle.actx_tree.specs.declared.function.Function.{Function, out-Function, roll-out-Function}
+use Rattle.actx_tree.specs.declared.function.Method.{Method, out-Method, roll-out-Method}
+use Rattle.actx_tree.specs.declared.function.Class.{Class, out-Class, roll-out-Class}
+use Rattle.actx_tree.specs.declared.function.Member.{Member, out-Member, roll-out-Member}
 use Rattle.actx_tree.specs.declared.pattern.Target.{Target}
 use Rattle.actx_tree.specs.declared.pattern.Target.TheVariants as target
 use Rattle.actx_tree.specs.declared.pattern.Prop.{Prop}
 use Rattle.actx_tree.specs.declared.pattern.Prop.TheVariants as prop
-use Rattle.actx_tree.specs.declared.pattern.Elem.{Elem}
-use Rattle.actx_tree.specs.declared.pattern.Params.{Params}
+use Rattle.actx_tree.specs.declared.pattern.Elem.{Elem, out-Elem, roll-out-Elem}
+use Rattle.actx_tree.specs.declared.pattern.Params.{Params, out-Params, roll-out-Params}
 use Rattle.actx_tree.specs.declared.operator.BinaryOp.{BinaryOp}
 use Rattle.actx_tree.specs.declared.operator.UnaryOp.{UnaryOp}
 use Rattle.actx_tree.specs.declared.operator.StepOp.{StepOp}
@@ -253,6 +253,32 @@ unfolding params_size elem_size target_size
 params_size-Params elems None = simp the_lemmas
 params_size-Params elems (Some rest) = simp the_lemmas
 
+-- ---- structs, by their fields
+
+pub piece_size-fields : (whole : Piece) → piece_size whole ≡ expr_size (out-Piece whole).value
+piece_size-fields whole = let e = piece_size-Piece (out-Piece whole).value (out-Piece whole).after in subst (λ (z : Piece). piece_size z ≡ expr_size (out-Piece whole).value) (roll-out-Piece whole) e
+
+pub operand_size-fields : (whole : Operand) → operand_size whole ≡ expr_size (out-Operand whole).right
+operand_size-fields whole = let e = operand_size-Operand (out-Operand whole).op (out-Operand whole).right in subst (λ (z : Operand). operand_size z ≡ expr_size (out-Operand whole).right) (roll-out-Operand whole) e
+
+pub function_size-fields : (whole : Function) → function_size whole ≡ suc (params_size (out-Function whole).params)
+function_size-fields whole = let e = function_size-Function (out-Function whole).flow (out-Function whole).name (out-Function whole).params (out-Function whole).body in subst (λ (z : Function). function_size z ≡ suc (params_size (out-Function whole).params)) (roll-out-Function whole) e
+
+pub method_size-fields : (whole : Method) → method_size whole ≡ suc (key_size (out-Method whole).key + params_size (out-Method whole).params)
+method_size-fields whole = let e = method_size-Method (out-Method whole).flow (out-Method whole).key (out-Method whole).params (out-Method whole).body in subst (λ (z : Method). method_size z ≡ suc (key_size (out-Method whole).key + params_size (out-Method whole).params)) (roll-out-Method whole) e
+
+pub class_size-fields : (whole : Class) → class_size whole ≡ suc (or_zero expr_size (out-Class whole).parent + total (map member_size (out-Class whole).members))
+class_size-fields whole = let e = class_size-Class (out-Class whole).name (out-Class whole).parent (out-Class whole).members in subst (λ (z : Class). class_size z ≡ suc (or_zero expr_size (out-Class whole).parent + total (map member_size (out-Class whole).members))) (roll-out-Class whole) e
+
+pub member_size-fields : (whole : Member) → member_size whole ≡ method_size (out-Member whole).method
+member_size-fields whole = let e = member_size-Member (out-Member whole).is_static (out-Member whole).method in subst (λ (z : Member). member_size z ≡ method_size (out-Member whole).method) (roll-out-Member whole) e
+
+pub elem_size-fields : (whole : Elem) → elem_size whole ≡ target_size (out-Elem whole).target + or_zero expr_size (out-Elem whole).default
+elem_size-fields whole = let e = elem_size-Elem (out-Elem whole).target (out-Elem whole).default in subst (λ (z : Elem). elem_size z ≡ target_size (out-Elem whole).target + or_zero expr_size (out-Elem whole).default) (roll-out-Elem whole) e
+
+pub params_size-fields : (whole : Params) → params_size whole ≡ total (map elem_size (out-Params whole).elems) + or_zero (λ (t : Target). suc (target_size t)) (out-Params whole).rest
+params_size-fields whole = let e = params_size-Params (out-Params whole).elems (out-Params whole).rest in subst (λ (z : Params). params_size z ≡ total (map elem_size (out-Params whole).elems) + or_zero (λ (t : Target). suc (target_size t)) (out-Params whole).rest) (roll-out-Params whole) e
+
 -- all of these
 pub ruleset size_equations = (
   expr_size-Name,
@@ -307,4 +333,12 @@ pub ruleset size_equations = (
   prop_size-Pair,
   elem_size-Elem,
   params_size-Params,
+  piece_size-fields,
+  operand_size-fields,
+  function_size-fields,
+  method_size-fields,
+  class_size-fields,
+  member_size-fields,
+  elem_size-fields,
+  params_size-fields,
 )

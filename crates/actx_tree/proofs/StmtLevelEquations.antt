@@ -1,5 +1,5 @@
 -- What the levels of each kind of statement are.
-use Rattle.std.proofs.Common.{◌≡◌, ℕ, ℤ, Bool, suc, max, List, Option, Some, None, map}
+use Rattle.std.proofs.Common.{◌≡◌, subst, ℕ, ℤ, Bool, suc, max, List, Option, Some, None, map}
 use Rattle.actx_text.specs.declared.units.Units.{Units}
 use Rattle.actx_tree.specs.declared.expr.Expr.{Expr}
 use Rattle.actx_tree.specs.declared.expr.Piece.{Piece}
@@ -18,7 +18,7 @@ use Rattle.actx_tree.specs.declared.pattern.Elem.{Elem}
 use Rattle.actx_tree.specs.declared.pattern.Params.{Params}
 use Rattle.actx_tree.specs.declared.stmt.Stmt.{Stmt, the_lemmas}
 use Rattle.actx_tree.specs.declared.stmt.Stmt.TheVariants as s
-use Rattle.actx_tree.specs.declared.stmt.Catch.{Catch}
+use Rattle.actx_tree.specs.declared.stmt.Catch.{Catch, out-Catch, roll-out-Catch}
 use Rattle.actx_tree.specs.declared.stmt.ForInit.{ForInit}
 use Rattle.actx_tree.specs.Parts.{catch_of}
 use Rattle.actx_tree.specs.Levels.{expr_levels, piece_levels, argument_levels, entry_levels, key_levels, suffix_levels, operand_levels, function_levels, method_levels, class_levels, member_levels, target_levels, prop_levels, elem_levels, params_levels, stmt_levels, catch_levels, for_init_levels, stmts_levels, highest, or_zero}
@@ -97,6 +97,11 @@ pub catch_levels-Catch : (target : Option Target) (block : List Stmt) → catch_
 unfolding catch_levels stmt_levels
 catch_levels-Catch target block = simp the_lemmas
 
+-- ---- structs, by their fields
+
+pub catch_levels-fields : (whole : Catch) → catch_levels whole ≡ max (or_zero target_levels (out-Catch whole).target) (highest (map stmt_levels (out-Catch whole).block))
+catch_levels-fields whole = let e = catch_levels-Catch (out-Catch whole).target (out-Catch whole).block in subst (λ (z : Catch). catch_levels z ≡ max (or_zero target_levels (out-Catch whole).target) (highest (map stmt_levels (out-Catch whole).block))) (roll-out-Catch whole) e
+
 -- all of these
 pub ruleset stmt_levels_equations = (
   stmt_levels-Let,
@@ -116,4 +121,5 @@ pub ruleset stmt_levels_equations = (
   stmt_levels-Try,
   stmt_levels-Expr,
   catch_levels-Catch,
+  catch_levels-fields,
 )

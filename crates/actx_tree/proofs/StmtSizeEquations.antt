@@ -1,5 +1,5 @@
 -- What the size of each kind of statement is.
-use Rattle.std.proofs.Common.{◌≡◌, ℕ, ℤ, Bool, suc, ◌+◌, List, Option, Some, None, map}
+use Rattle.std.proofs.Common.{◌≡◌, subst, ℕ, ℤ, Bool, suc, ◌+◌, List, Option, Some, None, map}
 use Rattle.actx_text.specs.declared.units.Units.{Units}
 use Rattle.actx_tree.specs.declared.expr.Expr.{Expr}
 use Rattle.actx_tree.specs.declared.expr.Piece.{Piece}
@@ -18,7 +18,7 @@ use Rattle.actx_tree.specs.declared.pattern.Elem.{Elem}
 use Rattle.actx_tree.specs.declared.pattern.Params.{Params}
 use Rattle.actx_tree.specs.declared.stmt.Stmt.{Stmt, the_lemmas}
 use Rattle.actx_tree.specs.declared.stmt.Stmt.TheVariants as s
-use Rattle.actx_tree.specs.declared.stmt.Catch.{Catch}
+use Rattle.actx_tree.specs.declared.stmt.Catch.{Catch, out-Catch, roll-out-Catch}
 use Rattle.actx_tree.specs.declared.stmt.ForInit.{ForInit}
 use Rattle.actx_tree.specs.Parts.{catch_of}
 use Rattle.actx_tree.specs.Levels.{or_zero}
@@ -98,6 +98,11 @@ pub catch_size-Catch : (target : Option Target) (block : List Stmt) → catch_si
 unfolding catch_size stmt_size
 catch_size-Catch target block = simp the_lemmas
 
+-- ---- structs, by their fields
+
+pub catch_size-fields : (whole : Catch) → catch_size whole ≡ or_zero target_size (out-Catch whole).target + total (map stmt_size (out-Catch whole).block)
+catch_size-fields whole = let e = catch_size-Catch (out-Catch whole).target (out-Catch whole).block in subst (λ (z : Catch). catch_size z ≡ or_zero target_size (out-Catch whole).target + total (map stmt_size (out-Catch whole).block)) (roll-out-Catch whole) e
+
 -- all of these
 pub ruleset stmt_size_equations = (
   stmt_size-Let,
@@ -117,4 +122,5 @@ pub ruleset stmt_size_equations = (
   stmt_size-Try,
   stmt_size-Expr,
   catch_size-Catch,
+  catch_size-fields,
 )

@@ -1,5 +1,5 @@
 -- Which bodies are in each kind of expression, pattern, function and class, and of their parts.
-use Rattle.std.proofs.Common.{◌≡◌, subst, ℕ, ℤ, Bool, suc, ◌++◌, [], ap, List, Option, Some, None, map}
+use Rattle.std.proofs.Common.{◌≡◌, subst, ℕ, ℤ, Bool, suc, ◌+◌, ◌++◌, [], ap, List, Option, Some, None, map}
 use Rattle.actx_text.specs.declared.units.Units.{Units}
 use Rattle.actx_tree.specs.declared.expr.Expr.{Expr, Expr-F, the_lemmas}
 use Rattle.actx_tree.specs.declared.expr.Expr.TheVariants as e
@@ -58,23 +58,23 @@ pub expr_bodies-This : (d : ℕ) → expr_bodies e.This d ≡ []
 unfolding expr_bodies
 expr_bodies-This d = let q : expr_bodies e.This ≡ expr_step Expr-F.This = simp the_lemmas in ap (λ (g : Found). g d) q
 
-pub expr_bodies-Template : (text : Units) (pieces : List Piece) (d : ℕ) → expr_bodies (e.Template text pieces) d ≡ all (map piece_bodies pieces) (suc d)
+pub expr_bodies-Template : (text : Units) (pieces : List Piece) (d : ℕ) → expr_bodies (e.Template text pieces) d ≡ all (map piece_bodies pieces) (d + 1)
 unfolding expr_bodies piece_bodies
 expr_bodies-Template text pieces d = let q : expr_bodies (e.Template text pieces) ≡ expr_step (Expr-F.Template text (map piece_bodies pieces)) = simp the_lemmas in ap (λ (g : Found). g d) q
 
-pub expr_bodies-Brackets : (x : Expr) (d : ℕ) → expr_bodies (e.Brackets x) d ≡ expr_bodies x (suc d)
+pub expr_bodies-Brackets : (x : Expr) (d : ℕ) → expr_bodies (e.Brackets x) d ≡ expr_bodies x (d + 1)
 unfolding expr_bodies
 expr_bodies-Brackets x d = let q : expr_bodies (e.Brackets x) ≡ expr_step (Expr-F.Brackets (expr_bodies x)) = simp the_lemmas in ap (λ (g : Found). g d) q
 
-pub expr_bodies-Array : (arguments : List Argument) (d : ℕ) → expr_bodies (e.Array arguments) d ≡ all (map argument_bodies arguments) (suc d)
+pub expr_bodies-Array : (arguments : List Argument) (d : ℕ) → expr_bodies (e.Array arguments) d ≡ all (map argument_bodies arguments) (d + 1)
 unfolding expr_bodies argument_bodies
 expr_bodies-Array arguments d = let q : expr_bodies (e.Array arguments) ≡ expr_step (Expr-F.Expr::Array (map argument_bodies arguments)) = simp the_lemmas in ap (λ (g : Found). g d) q
 
-pub expr_bodies-Object : (entries : List Entry) (d : ℕ) → expr_bodies (e.Object entries) d ≡ all (map entry_bodies entries) (suc d)
+pub expr_bodies-Object : (entries : List Entry) (d : ℕ) → expr_bodies (e.Object entries) d ≡ all (map entry_bodies entries) (d + 1)
 unfolding expr_bodies entry_bodies
 expr_bodies-Object entries d = let q : expr_bodies (e.Object entries) ≡ expr_step (Expr-F.Expr::Object (map entry_bodies entries)) = simp the_lemmas in ap (λ (g : Found). g d) q
 
-pub expr_bodies-SuperCall : (arguments : List Argument) (d : ℕ) → expr_bodies (e.SuperCall arguments) d ≡ all (map argument_bodies arguments) (suc d)
+pub expr_bodies-SuperCall : (arguments : List Argument) (d : ℕ) → expr_bodies (e.SuperCall arguments) d ≡ all (map argument_bodies arguments) (d + 1)
 unfolding expr_bodies argument_bodies
 expr_bodies-SuperCall arguments d = let q : expr_bodies (e.SuperCall arguments) ≡ expr_step (Expr-F.SuperCall (map argument_bodies arguments)) = simp the_lemmas in ap (λ (g : Found). g d) q
 
@@ -90,53 +90,53 @@ pub expr_bodies-Class : (c : Class) (d : ℕ) → expr_bodies (e.Class c) d ≡ 
 unfolding expr_bodies class_bodies
 expr_bodies-Class c d = let q : expr_bodies (e.Class c) ≡ expr_step (Expr-F.Class (class_bodies c)) = simp the_lemmas in ap (λ (g : Found). g d) q
 
-pub expr_bodies-New : (x : Expr) (suffixes : List Suffix) (arguments : Option (List Argument)) (d : ℕ) → expr_bodies (e.New x suffixes arguments) d ≡ expr_bodies x (suc d) ++ (all (map suffix_bodies suffixes) (suc d) ++ or_none arguments_bodies arguments (suc d))
+pub expr_bodies-New : (x : Expr) (suffixes : List Suffix) (arguments : Option (List Argument)) (d : ℕ) → expr_bodies (e.New x suffixes arguments) d ≡ expr_bodies x (d + 1) ++ (all (map suffix_bodies suffixes) (d + 1) ++ or_none arguments_bodies arguments (d + 1))
 unfolding expr_bodies suffix_bodies argument_bodies
 expr_bodies-New x suffixes None d = let q : expr_bodies (e.New x suffixes None) ≡ expr_step (Expr-F.New (expr_bodies x) (map suffix_bodies suffixes) None) = simp the_lemmas in ap (λ (g : Found). g d) q
 expr_bodies-New x suffixes (Some arguments) d = let q : expr_bodies (e.New x suffixes (Some arguments)) ≡ expr_step (Expr-F.New (expr_bodies x) (map suffix_bodies suffixes) (Some (map argument_bodies arguments))) = simp the_lemmas in ap (λ (g : Found). g d) q
 
-pub expr_bodies-Left : (x : Expr) (suffixes : List Suffix) (d : ℕ) → expr_bodies (e.Left x suffixes) d ≡ expr_bodies x (suc d) ++ all (map suffix_bodies suffixes) (suc d)
+pub expr_bodies-Left : (x : Expr) (suffixes : List Suffix) (d : ℕ) → expr_bodies (e.Left x suffixes) d ≡ expr_bodies x (d + 1) ++ all (map suffix_bodies suffixes) (d + 1)
 unfolding expr_bodies suffix_bodies
 expr_bodies-Left x suffixes d = let q : expr_bodies (e.Left x suffixes) ≡ expr_step (Expr-F.Left (expr_bodies x) (map suffix_bodies suffixes)) = simp the_lemmas in ap (λ (g : Found). g d) q
 
-pub expr_bodies-StepBefore : (op : StepOp) (x : Expr) (d : ℕ) → expr_bodies (e.StepBefore op x) d ≡ expr_bodies x (suc d)
+pub expr_bodies-StepBefore : (op : StepOp) (x : Expr) (d : ℕ) → expr_bodies (e.StepBefore op x) d ≡ expr_bodies x (d + 1)
 unfolding expr_bodies
 expr_bodies-StepBefore op x d = let q : expr_bodies (e.StepBefore op x) ≡ expr_step (Expr-F.StepBefore op (expr_bodies x)) = simp the_lemmas in ap (λ (g : Found). g d) q
 
-pub expr_bodies-StepAfter : (x : Expr) (op : StepOp) (d : ℕ) → expr_bodies (e.StepAfter x op) d ≡ expr_bodies x (suc d)
+pub expr_bodies-StepAfter : (x : Expr) (op : StepOp) (d : ℕ) → expr_bodies (e.StepAfter x op) d ≡ expr_bodies x (d + 1)
 unfolding expr_bodies
 expr_bodies-StepAfter x op d = let q : expr_bodies (e.StepAfter x op) ≡ expr_step (Expr-F.StepAfter (expr_bodies x) op) = simp the_lemmas in ap (λ (g : Found). g d) q
 
-pub expr_bodies-Unary : (op : UnaryOp) (x : Expr) (d : ℕ) → expr_bodies (e.Unary op x) d ≡ expr_bodies x (suc d)
+pub expr_bodies-Unary : (op : UnaryOp) (x : Expr) (d : ℕ) → expr_bodies (e.Unary op x) d ≡ expr_bodies x (d + 1)
 unfolding expr_bodies
 expr_bodies-Unary op x d = let q : expr_bodies (e.Unary op x) ≡ expr_step (Expr-F.Unary op (expr_bodies x)) = simp the_lemmas in ap (λ (g : Found). g d) q
 
-pub expr_bodies-Chain : (x : Expr) (operands : List Operand) (d : ℕ) → expr_bodies (e.Chain x operands) d ≡ expr_bodies x (suc d) ++ all (map operand_bodies operands) (suc d)
+pub expr_bodies-Chain : (x : Expr) (operands : List Operand) (d : ℕ) → expr_bodies (e.Chain x operands) d ≡ expr_bodies x (d + 1) ++ all (map operand_bodies operands) (d + 1)
 unfolding expr_bodies operand_bodies
 expr_bodies-Chain x operands d = let q : expr_bodies (e.Chain x operands) ≡ expr_step (Expr-F.Chain (expr_bodies x) (map operand_bodies operands)) = simp the_lemmas in ap (λ (g : Found). g d) q
 
-pub expr_bodies-Conditional : (test : Expr) (then : Expr) (other : Expr) (d : ℕ) → expr_bodies (e.Conditional test then other) d ≡ expr_bodies test (suc d) ++ (expr_bodies then (suc d) ++ expr_bodies other (suc d))
+pub expr_bodies-Conditional : (test : Expr) (then : Expr) (other : Expr) (d : ℕ) → expr_bodies (e.Conditional test then other) d ≡ expr_bodies test (d + 1) ++ (expr_bodies then (d + 1) ++ expr_bodies other (d + 1))
 unfolding expr_bodies
 expr_bodies-Conditional test then other d = let q : expr_bodies (e.Conditional test then other) ≡ expr_step (Expr-F.Conditional (expr_bodies test) (expr_bodies then) (expr_bodies other)) = simp the_lemmas in ap (λ (g : Found). g d) q
 
-pub expr_bodies-Assign : (place : Expr) (op : AssignOp) (x : Expr) (d : ℕ) → expr_bodies (e.Assign place op x) d ≡ expr_bodies place (suc d) ++ expr_bodies x (suc d)
+pub expr_bodies-Assign : (place : Expr) (op : AssignOp) (x : Expr) (d : ℕ) → expr_bodies (e.Assign place op x) d ≡ expr_bodies place (d + 1) ++ expr_bodies x (d + 1)
 unfolding expr_bodies
 expr_bodies-Assign place op x d = let q : expr_bodies (e.Assign place op x) ≡ expr_step (Expr-F.Assign (expr_bodies place) op (expr_bodies x)) = simp the_lemmas in ap (λ (g : Found). g d) q
 
-pub expr_bodies-Yield : (x : Option Expr) (d : ℕ) → expr_bodies (e.Yield x) d ≡ or_none expr_bodies x (suc d)
+pub expr_bodies-Yield : (x : Option Expr) (d : ℕ) → expr_bodies (e.Yield x) d ≡ or_none expr_bodies x (d + 1)
 unfolding expr_bodies
 expr_bodies-Yield None d = let q : expr_bodies (e.Yield None) ≡ expr_step (Expr-F.Yield None) = simp the_lemmas in ap (λ (g : Found). g d) q
 expr_bodies-Yield (Some x) d = let q : expr_bodies (e.Yield (Some x)) ≡ expr_step (Expr-F.Yield (Some (expr_bodies x))) = simp the_lemmas in ap (λ (g : Found). g d) q
 
-pub expr_bodies-Arrow : (is_async : Bool) (params : Params) (x : Expr) (d : ℕ) → expr_bodies (e.Arrow is_async params x) d ≡ params_bodies params (suc d) ++ expr_bodies x (suc d)
+pub expr_bodies-Arrow : (is_async : Bool) (params : Params) (x : Expr) (d : ℕ) → expr_bodies (e.Arrow is_async params x) d ≡ params_bodies params (d + 1) ++ expr_bodies x (d + 1)
 unfolding expr_bodies params_bodies
 expr_bodies-Arrow is_async params x d = let q : expr_bodies (e.Arrow is_async params x) ≡ expr_step (Expr-F.Arrow is_async (params_bodies params) (expr_bodies x)) = simp the_lemmas in ap (λ (g : Found). g d) q
 
-pub expr_bodies-ArrowBlock : (is_async : Bool) (params : Params) (body : Unread) (d : ℕ) → expr_bodies (e.ArrowBlock is_async params body) d ≡ params_bodies params (suc d) ++ body_at body d
+pub expr_bodies-ArrowBlock : (is_async : Bool) (params : Params) (body : Unread) (d : ℕ) → expr_bodies (e.ArrowBlock is_async params body) d ≡ params_bodies params (d + 1) ++ body_at body d
 unfolding expr_bodies params_bodies
 expr_bodies-ArrowBlock is_async params body d = let q : expr_bodies (e.ArrowBlock is_async params body) ≡ expr_step (Expr-F.ArrowBlock is_async (params_bodies params) body) = simp the_lemmas in ap (λ (g : Found). g d) q
 
-pub expr_bodies-Comma : (x : Expr) (xs : List Expr) (d : ℕ) → expr_bodies (e.Comma x xs) d ≡ expr_bodies x (suc d) ++ all (map expr_bodies xs) (suc d)
+pub expr_bodies-Comma : (x : Expr) (xs : List Expr) (d : ℕ) → expr_bodies (e.Comma x xs) d ≡ expr_bodies x (d + 1) ++ all (map expr_bodies xs) (d + 1)
 unfolding expr_bodies
 expr_bodies-Comma x xs d = let q : expr_bodies (e.Comma x xs) ≡ expr_step (Expr-F.Comma (expr_bodies x) (map expr_bodies xs)) = simp the_lemmas in ap (λ (g : Found). g d) q
 
@@ -202,15 +202,15 @@ operand_bodies-Operand op right d = let q : operand_bodies (operand_of op right)
 
 -- ---- functions and classes
 
-pub function_bodies-Function : (flow : Flow) (name : Option Units) (params : Params) (body : Unread) (d : ℕ) → function_bodies (function_of flow name params body) d ≡ params_bodies params (suc d) ++ body_at body d
+pub function_bodies-Function : (flow : Flow) (name : Option Units) (params : Params) (body : Unread) (d : ℕ) → function_bodies (function_of flow name params body) d ≡ params_bodies params (d + 1) ++ body_at body d
 unfolding function_bodies params_bodies
 function_bodies-Function flow name params body d = let q : function_bodies (function_of flow name params body) ≡ function_step (record { flow = flow; name = name; params = params_bodies params; body = body }) = simp the_lemmas in ap (λ (g : Found). g d) q
 
-pub method_bodies-Method : (flow : Flow) (k : Key) (params : Params) (body : Unread) (d : ℕ) → method_bodies (method_of flow k params body) d ≡ key_bodies k (suc d) ++ (params_bodies params (suc d) ++ body_at body d)
+pub method_bodies-Method : (flow : Flow) (k : Key) (params : Params) (body : Unread) (d : ℕ) → method_bodies (method_of flow k params body) d ≡ key_bodies k (d + 1) ++ (params_bodies params (d + 1) ++ body_at body d)
 unfolding method_bodies key_bodies params_bodies
 method_bodies-Method flow k params body d = let q : method_bodies (method_of flow k params body) ≡ method_step (record { flow = flow; key = key_bodies k; params = params_bodies params; body = body }) = simp the_lemmas in ap (λ (g : Found). g d) q
 
-pub class_bodies-Class : (name : Option Units) (parent : Option Expr) (members : List Member) (d : ℕ) → class_bodies (class_of name parent members) d ≡ or_none expr_bodies parent (suc d) ++ all (map member_bodies members) (suc d)
+pub class_bodies-Class : (name : Option Units) (parent : Option Expr) (members : List Member) (d : ℕ) → class_bodies (class_of name parent members) d ≡ or_none expr_bodies parent (d + 1) ++ all (map member_bodies members) (d + 1)
 unfolding class_bodies expr_bodies member_bodies
 class_bodies-Class name None members d = let q : class_bodies (class_of name None members) ≡ class_step (record { name = name; parent = None; members = map member_bodies members }) = simp the_lemmas in ap (λ (g : Found). g d) q
 class_bodies-Class name (Some parent) members d = let q : class_bodies (class_of name (Some parent) members) ≡ class_step (record { name = name; parent = Some (expr_bodies parent); members = map member_bodies members }) = simp the_lemmas in ap (λ (g : Found). g d) q
@@ -225,11 +225,11 @@ pub target_bodies-Name : (name : Units) (d : ℕ) → target_bodies (target.Name
 unfolding target_bodies
 target_bodies-Name name d = let q : target_bodies (target.Name name) ≡ target_step (Target-F.Target::Name name) = simp the_lemmas in ap (λ (g : Found). g d) q
 
-pub target_bodies-Object : (props : List Prop) (rest : Option Units) (d : ℕ) → target_bodies (target.Object props rest) d ≡ all (map prop_bodies props) (suc d)
+pub target_bodies-Object : (props : List Prop) (rest : Option Units) (d : ℕ) → target_bodies (target.Object props rest) d ≡ all (map prop_bodies props) (d + 1)
 unfolding target_bodies prop_bodies
 target_bodies-Object props rest d = let q : target_bodies (target.Object props rest) ≡ target_step (Target-F.Target::Object (map prop_bodies props) rest) = simp the_lemmas in ap (λ (g : Found). g d) q
 
-pub target_bodies-Array : (elems : List Elem) (rest : Option Units) (d : ℕ) → target_bodies (target.Array elems rest) d ≡ all (map elem_bodies elems) (suc d)
+pub target_bodies-Array : (elems : List Elem) (rest : Option Units) (d : ℕ) → target_bodies (target.Array elems rest) d ≡ all (map elem_bodies elems) (d + 1)
 unfolding target_bodies elem_bodies
 target_bodies-Array elems rest d = let q : target_bodies (target.Array elems rest) ≡ target_step (Target-F.Target::Array (map elem_bodies elems) rest) = simp the_lemmas in ap (λ (g : Found). g d) q
 
@@ -260,14 +260,14 @@ piece_bodies-fields whole d = let e = piece_bodies-Piece (out-Piece whole).value
 pub operand_bodies-fields : (whole : Operand) (d : ℕ) → operand_bodies whole d ≡ expr_bodies (out-Operand whole).right d
 operand_bodies-fields whole d = let e = operand_bodies-Operand (out-Operand whole).op (out-Operand whole).right d in subst (λ (z : Operand). operand_bodies z d ≡ expr_bodies (out-Operand whole).right d) (roll-out-Operand whole) e
 
-pub function_bodies-fields : (whole : Function) (d : ℕ) → function_bodies whole d ≡ params_bodies (out-Function whole).params (suc d) ++ body_at (out-Function whole).body d
-function_bodies-fields whole d = let e = function_bodies-Function (out-Function whole).flow (out-Function whole).name (out-Function whole).params (out-Function whole).body d in subst (λ (z : Function). function_bodies z d ≡ params_bodies (out-Function whole).params (suc d) ++ body_at (out-Function whole).body d) (roll-out-Function whole) e
+pub function_bodies-fields : (whole : Function) (d : ℕ) → function_bodies whole d ≡ params_bodies (out-Function whole).params (d + 1) ++ body_at (out-Function whole).body d
+function_bodies-fields whole d = let e = function_bodies-Function (out-Function whole).flow (out-Function whole).name (out-Function whole).params (out-Function whole).body d in subst (λ (z : Function). function_bodies z d ≡ params_bodies (out-Function whole).params (d + 1) ++ body_at (out-Function whole).body d) (roll-out-Function whole) e
 
-pub method_bodies-fields : (whole : Method) (d : ℕ) → method_bodies whole d ≡ key_bodies (out-Method whole).key (suc d) ++ (params_bodies (out-Method whole).params (suc d) ++ body_at (out-Method whole).body d)
-method_bodies-fields whole d = let e = method_bodies-Method (out-Method whole).flow (out-Method whole).key (out-Method whole).params (out-Method whole).body d in subst (λ (z : Method). method_bodies z d ≡ key_bodies (out-Method whole).key (suc d) ++ (params_bodies (out-Method whole).params (suc d) ++ body_at (out-Method whole).body d)) (roll-out-Method whole) e
+pub method_bodies-fields : (whole : Method) (d : ℕ) → method_bodies whole d ≡ key_bodies (out-Method whole).key (d + 1) ++ (params_bodies (out-Method whole).params (d + 1) ++ body_at (out-Method whole).body d)
+method_bodies-fields whole d = let e = method_bodies-Method (out-Method whole).flow (out-Method whole).key (out-Method whole).params (out-Method whole).body d in subst (λ (z : Method). method_bodies z d ≡ key_bodies (out-Method whole).key (d + 1) ++ (params_bodies (out-Method whole).params (d + 1) ++ body_at (out-Method whole).body d)) (roll-out-Method whole) e
 
-pub class_bodies-fields : (whole : Class) (d : ℕ) → class_bodies whole d ≡ or_none expr_bodies (out-Class whole).parent (suc d) ++ all (map member_bodies (out-Class whole).members) (suc d)
-class_bodies-fields whole d = let e = class_bodies-Class (out-Class whole).name (out-Class whole).parent (out-Class whole).members d in subst (λ (z : Class). class_bodies z d ≡ or_none expr_bodies (out-Class whole).parent (suc d) ++ all (map member_bodies (out-Class whole).members) (suc d)) (roll-out-Class whole) e
+pub class_bodies-fields : (whole : Class) (d : ℕ) → class_bodies whole d ≡ or_none expr_bodies (out-Class whole).parent (d + 1) ++ all (map member_bodies (out-Class whole).members) (d + 1)
+class_bodies-fields whole d = let e = class_bodies-Class (out-Class whole).name (out-Class whole).parent (out-Class whole).members d in subst (λ (z : Class). class_bodies z d ≡ or_none expr_bodies (out-Class whole).parent (d + 1) ++ all (map member_bodies (out-Class whole).members) (d + 1)) (roll-out-Class whole) e
 
 pub member_bodies-fields : (whole : Member) (d : ℕ) → member_bodies whole d ≡ method_bodies (out-Member whole).method d
 member_bodies-fields whole d = let e = member_bodies-Member (out-Member whole).is_static (out-Member whole).method d in subst (λ (z : Member). member_bodies z d ≡ method_bodies (out-Member whole).method d) (roll-out-Member whole) e

@@ -5,3 +5,4 @@ pub mod StmtLevelEquations
 pub mod StmtSizeEquations
 pub mod StmtBodyEquations
 pub mod Lists
+mod Walk

@@ -2,7 +2,7 @@
 -- body are not among them, since the tree has only the range of its tokens.
 --
 -- Nodes are those of `Levels`: the function itself is the last of those around its statements.
-use Rattle.std.specs.Prelude.{ℕ, suc, List, [], ◌∷◌, ◌++◌, map, Option, Some, None}
+use Rattle.std.specs.Prelude.{ℕ, ◌+◌, List, [], ◌∷◌, ◌++◌, map, Option, Some, None}
 use Rattle.actx_tree.specs.Folds.{Steps, StmtSteps, ExprOf, PieceOf, ArgumentOf, EntryOf, KeyOf, SuffixOf, OperandOf, FunctionOf, MethodOf, ClassOf, MemberOf, TargetOf, PropOf, ElemOf, ParamsOf, StmtOf, CatchOf, fold_expr, fold_piece, fold_argument, fold_entry, fold_key, fold_suffix, fold_operand, fold_function, fold_method, fold_class, fold_member, fold_target, fold_prop, fold_elem, fold_params, fold_stmt, fold_catch}
 use Rattle.actx_tree.specs.declared.expr.Expr.{Expr, Expr-F}
 use Rattle.actx_tree.specs.declared.expr.Piece.{Piece}
@@ -45,7 +45,7 @@ itself f = f
 
 -- the body of a function that has so many nodes around it
 abbrev pub body_at : Unread → Found
-body_at range depth = record { range = range; depth = suc depth } ∷ []
+body_at range depth = record { range = range; depth = depth + 1 } ∷ []
 
 -- ---- expressions
 
@@ -56,26 +56,26 @@ expr_step (Expr-F.Expr::Text text) depth = []
 expr_step (Expr-F.Bool value) depth = []
 expr_step Expr-F.Null depth = []
 expr_step Expr-F.This depth = []
-expr_step (Expr-F.Template text pieces) depth = all pieces (suc depth)
-expr_step (Expr-F.Brackets x) depth = x (suc depth)
-expr_step (Expr-F.Expr::Array arguments) depth = all arguments (suc depth)
-expr_step (Expr-F.Expr::Object entries) depth = all entries (suc depth)
-expr_step (Expr-F.SuperCall arguments) depth = all arguments (suc depth)
+expr_step (Expr-F.Template text pieces) depth = all pieces (depth + 1)
+expr_step (Expr-F.Brackets x) depth = x (depth + 1)
+expr_step (Expr-F.Expr::Array arguments) depth = all arguments (depth + 1)
+expr_step (Expr-F.Expr::Object entries) depth = all entries (depth + 1)
+expr_step (Expr-F.SuperCall arguments) depth = all arguments (depth + 1)
 expr_step (Expr-F.SuperMember name) depth = []
 expr_step (Expr-F.Function f) depth = f depth
 expr_step (Expr-F.Class c) depth = c depth
-expr_step (Expr-F.New x suffixes arguments) depth = x (suc depth) ++ (all suffixes (suc depth) ++ or_none all arguments (suc depth))
-expr_step (Expr-F.Left x suffixes) depth = x (suc depth) ++ all suffixes (suc depth)
-expr_step (Expr-F.StepBefore op x) depth = x (suc depth)
-expr_step (Expr-F.StepAfter x op) depth = x (suc depth)
-expr_step (Expr-F.Unary op x) depth = x (suc depth)
-expr_step (Expr-F.Chain x operands) depth = x (suc depth) ++ all operands (suc depth)
-expr_step (Expr-F.Conditional test then other) depth = test (suc depth) ++ (then (suc depth) ++ other (suc depth))
-expr_step (Expr-F.Assign place op x) depth = place (suc depth) ++ x (suc depth)
-expr_step (Expr-F.Yield x) depth = or_none itself x (suc depth)
-expr_step (Expr-F.Arrow is_async params x) depth = params (suc depth) ++ x (suc depth)
-expr_step (Expr-F.ArrowBlock is_async params body) depth = params (suc depth) ++ body_at body depth
-expr_step (Expr-F.Comma x xs) depth = x (suc depth) ++ all xs (suc depth)
+expr_step (Expr-F.New x suffixes arguments) depth = x (depth + 1) ++ (all suffixes (depth + 1) ++ or_none all arguments (depth + 1))
+expr_step (Expr-F.Left x suffixes) depth = x (depth + 1) ++ all suffixes (depth + 1)
+expr_step (Expr-F.StepBefore op x) depth = x (depth + 1)
+expr_step (Expr-F.StepAfter x op) depth = x (depth + 1)
+expr_step (Expr-F.Unary op x) depth = x (depth + 1)
+expr_step (Expr-F.Chain x operands) depth = x (depth + 1) ++ all operands (depth + 1)
+expr_step (Expr-F.Conditional test then other) depth = test (depth + 1) ++ (then (depth + 1) ++ other (depth + 1))
+expr_step (Expr-F.Assign place op x) depth = place (depth + 1) ++ x (depth + 1)
+expr_step (Expr-F.Yield x) depth = or_none itself x (depth + 1)
+expr_step (Expr-F.Arrow is_async params x) depth = params (depth + 1) ++ x (depth + 1)
+expr_step (Expr-F.ArrowBlock is_async params body) depth = params (depth + 1) ++ body_at body depth
+expr_step (Expr-F.Comma x xs) depth = x (depth + 1) ++ all xs (depth + 1)
 
 abbrev pub piece_step : PieceOf Found → Found
 piece_step p depth = p.value depth
@@ -107,13 +107,13 @@ operand_step o depth = o.right depth
 -- ---- functions and classes
 
 abbrev pub function_step : FunctionOf Found → Found
-function_step f depth = f.params (suc depth) ++ body_at f.body depth
+function_step f depth = f.params (depth + 1) ++ body_at f.body depth
 
 abbrev pub method_step : MethodOf Found → Found
-method_step m depth = m.key (suc depth) ++ (m.params (suc depth) ++ body_at m.body depth)
+method_step m depth = m.key (depth + 1) ++ (m.params (depth + 1) ++ body_at m.body depth)
 
 abbrev pub class_step : ClassOf Found → Found
-class_step c depth = or_none itself c.parent (suc depth) ++ all c.members (suc depth)
+class_step c depth = or_none itself c.parent (depth + 1) ++ all c.members (depth + 1)
 
 abbrev pub member_step : MemberOf Found → Found
 member_step m depth = m.method depth
@@ -122,8 +122,8 @@ member_step m depth = m.method depth
 
 abbrev pub target_step : TargetOf Found → Found
 target_step (Target-F.Target::Name name) depth = []
-target_step (Target-F.Target::Object props rest) depth = all props (suc depth)
-target_step (Target-F.Target::Array elems rest) depth = all elems (suc depth)
+target_step (Target-F.Target::Object props rest) depth = all props (depth + 1)
+target_step (Target-F.Target::Array elems rest) depth = all elems (depth + 1)
 
 abbrev pub prop_step : PropOf Found → Found
 prop_step (Prop-F.Prop::Shorthand name default) depth = or_none itself default depth
@@ -208,26 +208,26 @@ arguments_bodies xs = all (map argument_bodies xs)
 
 abbrev pub for_init_bodies : ForInit → Found
 for_init_bodies init.Nothing depth = []
-for_init_bodies (init.Let is_const elems) depth = all (map elem_bodies elems) (suc depth)
+for_init_bodies (init.Let is_const elems) depth = all (map elem_bodies elems) (depth + 1)
 for_init_bodies (init.Expr x) depth = expr_bodies x depth
 
 abbrev pub stmt_step : StmtOf Found → Found
-stmt_step (Stmt-F.Let is_const elems) depth = all (map elem_bodies elems) (suc depth)
+stmt_step (Stmt-F.Let is_const elems) depth = all (map elem_bodies elems) (depth + 1)
 stmt_step (Stmt-F.Function f) depth = function_bodies f depth
 stmt_step (Stmt-F.Class c) depth = class_bodies c depth
-stmt_step (Stmt-F.Block block) depth = all block (suc depth)
+stmt_step (Stmt-F.Block block) depth = all block (depth + 1)
 stmt_step Stmt-F.Empty depth = []
-stmt_step (Stmt-F.If test then other) depth = expr_bodies test (suc depth) ++ (then (suc depth) ++ or_none itself other (suc depth))
-stmt_step (Stmt-F.While test body) depth = expr_bodies test (suc depth) ++ body (suc depth)
-stmt_step (Stmt-F.Do body test) depth = body (suc depth) ++ expr_bodies test (suc depth)
-stmt_step (Stmt-F.For first test update body) depth = for_init_bodies first (suc depth) ++ (or_none expr_bodies test (suc depth) ++ (or_none expr_bodies update (suc depth) ++ body (suc depth)))
-stmt_step (Stmt-F.ForOf is_const target x body) depth = target_bodies target (suc depth) ++ (expr_bodies x (suc depth) ++ body (suc depth))
-stmt_step (Stmt-F.Return x) depth = or_none expr_bodies x (suc depth)
-stmt_step (Stmt-F.Throw x) depth = expr_bodies x (suc depth)
+stmt_step (Stmt-F.If test then other) depth = expr_bodies test (depth + 1) ++ (then (depth + 1) ++ or_none itself other (depth + 1))
+stmt_step (Stmt-F.While test body) depth = expr_bodies test (depth + 1) ++ body (depth + 1)
+stmt_step (Stmt-F.Do body test) depth = body (depth + 1) ++ expr_bodies test (depth + 1)
+stmt_step (Stmt-F.For first test update body) depth = for_init_bodies first (depth + 1) ++ (or_none expr_bodies test (depth + 1) ++ (or_none expr_bodies update (depth + 1) ++ body (depth + 1)))
+stmt_step (Stmt-F.ForOf is_const target x body) depth = target_bodies target (depth + 1) ++ (expr_bodies x (depth + 1) ++ body (depth + 1))
+stmt_step (Stmt-F.Return x) depth = or_none expr_bodies x (depth + 1)
+stmt_step (Stmt-F.Throw x) depth = expr_bodies x (depth + 1)
 stmt_step Stmt-F.Break depth = []
 stmt_step Stmt-F.Continue depth = []
-stmt_step (Stmt-F.Try block handler last) depth = all block (suc depth) ++ (or_none itself handler (suc depth) ++ or_none all last (suc depth))
-stmt_step (Stmt-F.Expr x) depth = expr_bodies x (suc depth)
+stmt_step (Stmt-F.Try block handler last) depth = all block (depth + 1) ++ (or_none itself handler (depth + 1) ++ or_none all last (depth + 1))
+stmt_step (Stmt-F.Expr x) depth = expr_bodies x (depth + 1)
 
 abbrev pub catch_step : CatchOf Found → Found
 catch_step c depth = or_none target_bodies c.target depth ++ all c.block depth

@@ -5,6 +5,7 @@
 //! body, and `Tree` has the bodies in a list of their own. So nothing recurses through functions.
 #![tactic(auto)]
 
+mod bodies;
 mod expr;
 mod function;
 mod operator;
@@ -12,6 +13,7 @@ mod pattern;
 mod stmt;
 mod tree;
 
+pub use bodies::{WALKED_LEVELS, bodies_of_expr, bodies_of_stmt, bodies_of_stmts};
 pub use expr::{Argument, Entry, Expr, Key, Operand, Piece, Suffix};
 pub use function::{Class, Flow, Function, Member, Method, Nested, Unread};
 pub use operator::{AssignOp, BinaryOp, StepOp, UnaryOp};

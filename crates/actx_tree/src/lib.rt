@@ -11,6 +11,8 @@ mod function;
 mod operator;
 mod pattern;
 mod stmt;
+#[cfg(test)]
+mod tests;
 mod tree;
 
 pub use bodies::{WALKED_LEVELS, bodies_of_expr, bodies_of_stmt, bodies_of_stmts};

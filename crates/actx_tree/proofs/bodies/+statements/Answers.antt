@@ -9,9 +9,6 @@ use Rattle.actx_tree.proofs.StmtBodyEquations.{catch_bodies-fields, stmt_bodies-
 use Rattle.actx_tree.proofs.Walk.{highest-drop, all_more, all_done}
 use Rattle.actx_tree.proofs.bodies.+statements.Goals as goal
 
-pub bodies_of_stmt-overflow_add-depth : goal.bodies_of_stmt-overflow_add-depth
-bodies_of_stmt-overflow_add-depth t c = omega (arith, c.requires)
-
 pub bodies_of_stmt-of_elems-requires : goal.bodies_of_stmt-of_elems-requires
 bodies_of_stmt-of_elems-requires t c = let r = rw (c.in-Let.is, stmt_levels-Let) at c.requires in rw c.as_slice.ensures (omega (arith, r))
 
@@ -21,155 +18,62 @@ bodies_of_stmt-of_function-requires t c = let r = rw (c.in-Function.is, stmt_lev
 pub bodies_of_stmt-of_class-requires : goal.bodies_of_stmt-of_class-requires
 bodies_of_stmt-of_class-requires t c = let r = rw (c.in-Class.is, stmt_levels-Class) at c.requires in omega (arith, r)
 
-pub bodies_of_stmt-overflow_add-depth-in-Block : goal.bodies_of_stmt-overflow_add-depth-in-Block
-bodies_of_stmt-overflow_add-depth-in-Block t c = omega (arith, c.requires)
-
 pub bodies_of_stmt-bodies_of_stmts-requires : goal.bodies_of_stmt-bodies_of_stmts-requires
 bodies_of_stmt-bodies_of_stmts-requires t c = let r = rw (c.in-Block.is, stmt_levels-Block) at c.requires in (search (rules, the_lemmas), rw c.as_slice-in-Block.ensures (omega (arith, r)))
-
-pub bodies_of_stmt-overflow_add-depth-in-If : goal.bodies_of_stmt-overflow_add-depth-in-If
-bodies_of_stmt-overflow_add-depth-in-If t c = omega (arith, c.requires)
 
 pub bodies_of_stmt-of_expr-requires : goal.bodies_of_stmt-of_expr-requires
 bodies_of_stmt-of_expr-requires t c = let r = rw (c.in-If.is, stmt_levels-If) at c.requires in omega (arith, r)
 
-pub bodies_of_stmt-returns-in_err-of_expr-in-If : goal.bodies_of_stmt-returns-in_err-of_expr-in-If
-bodies_of_stmt-returns-in_err-of_expr-in-If t c = search rules
-
-pub bodies_of_stmt-overflow_add-depth-in-If-2 : goal.bodies_of_stmt-overflow_add-depth-in-If-2
-bodies_of_stmt-overflow_add-depth-in-If-2 t c = omega (arith, c.requires)
-
 pub bodies_of_stmt-bodies_of_stmt-requires : goal.bodies_of_stmt-bodies_of_stmt-requires
 bodies_of_stmt-bodies_of_stmt-requires t c = let r = rw (c.in-If.is, stmt_levels-If) at c.requires in (search (rules, the_lemmas), rw c.get.ensures (omega (arith, r)))
-
-pub bodies_of_stmt-returns-in_err-bodies_of_stmt-in-If : goal.bodies_of_stmt-returns-in_err-bodies_of_stmt-in-If
-bodies_of_stmt-returns-in_err-bodies_of_stmt-in-If t c = search rules
-
-pub bodies_of_stmt-overflow_add-depth-in-If-3 : goal.bodies_of_stmt-overflow_add-depth-in-If-3
-bodies_of_stmt-overflow_add-depth-in-If-3 t c = omega (arith, c.requires)
 
 pub bodies_of_stmt-of_other-requires : goal.bodies_of_stmt-of_other-requires
 bodies_of_stmt-of_other-requires t c = let r = rw (c.in-If.is, stmt_levels-If) at c.requires in (search (rules, the_lemmas), omega (arith, r))
 
-pub bodies_of_stmt-overflow_add-depth-in-While : goal.bodies_of_stmt-overflow_add-depth-in-While
-bodies_of_stmt-overflow_add-depth-in-While t c = omega (arith, c.requires)
-
 pub bodies_of_stmt-of_expr-requires-in-While : goal.bodies_of_stmt-of_expr-requires-in-While
 bodies_of_stmt-of_expr-requires-in-While t c = let r = rw (c.in-While.is, stmt_levels-While) at c.requires in omega (arith, r)
-
-pub bodies_of_stmt-returns-in_err-of_expr-in-While : goal.bodies_of_stmt-returns-in_err-of_expr-in-While
-bodies_of_stmt-returns-in_err-of_expr-in-While t c = search rules
-
-pub bodies_of_stmt-overflow_add-depth-in-While-2 : goal.bodies_of_stmt-overflow_add-depth-in-While-2
-bodies_of_stmt-overflow_add-depth-in-While-2 t c = omega (arith, c.requires)
 
 pub bodies_of_stmt-bodies_of_stmt-requires-in-While : goal.bodies_of_stmt-bodies_of_stmt-requires-in-While
 bodies_of_stmt-bodies_of_stmt-requires-in-While t c = let r = rw (c.in-While.is, stmt_levels-While) at c.requires in (search (rules, the_lemmas), rw c.get-in-While.ensures (omega (arith, r)))
 
-pub bodies_of_stmt-overflow_add-depth-in-Do : goal.bodies_of_stmt-overflow_add-depth-in-Do
-bodies_of_stmt-overflow_add-depth-in-Do t c = omega (arith, c.requires)
-
 pub bodies_of_stmt-bodies_of_stmt-requires-in-Do : goal.bodies_of_stmt-bodies_of_stmt-requires-in-Do
 bodies_of_stmt-bodies_of_stmt-requires-in-Do t c = let r = rw (c.in-Do.is, stmt_levels-Do) at c.requires in (search (rules, the_lemmas), rw c.get-in-Do.ensures (omega (arith, r)))
-
-pub bodies_of_stmt-returns-in_err-bodies_of_stmt-in-Do : goal.bodies_of_stmt-returns-in_err-bodies_of_stmt-in-Do
-bodies_of_stmt-returns-in_err-bodies_of_stmt-in-Do t c = search rules
-
-pub bodies_of_stmt-overflow_add-depth-in-Do-2 : goal.bodies_of_stmt-overflow_add-depth-in-Do-2
-bodies_of_stmt-overflow_add-depth-in-Do-2 t c = omega (arith, c.requires)
 
 pub bodies_of_stmt-of_expr-requires-in-Do : goal.bodies_of_stmt-of_expr-requires-in-Do
 bodies_of_stmt-of_expr-requires-in-Do t c = let r = rw (c.in-Do.is, stmt_levels-Do) at c.requires in omega (arith, r)
 
-pub bodies_of_stmt-overflow_add-depth-in-For : goal.bodies_of_stmt-overflow_add-depth-in-For
-bodies_of_stmt-overflow_add-depth-in-For t c = omega (arith, c.requires)
-
 pub bodies_of_stmt-of_first-requires : goal.bodies_of_stmt-of_first-requires
 bodies_of_stmt-of_first-requires t c = let r = rw (c.in-For.is, stmt_levels-For) at c.requires in omega (arith, r)
-
-pub bodies_of_stmt-returns-in_err-of_first-in-For : goal.bodies_of_stmt-returns-in_err-of_first-in-For
-bodies_of_stmt-returns-in_err-of_first-in-For t c = search rules
-
-pub bodies_of_stmt-overflow_add-depth-in-For-2 : goal.bodies_of_stmt-overflow_add-depth-in-For-2
-bodies_of_stmt-overflow_add-depth-in-For-2 t c = omega (arith, c.requires)
 
 pub bodies_of_stmt-of_value-requires : goal.bodies_of_stmt-of_value-requires
 bodies_of_stmt-of_value-requires t c = let r = rw (c.in-For.is, stmt_levels-For) at c.requires in omega (arith, r)
 
-pub bodies_of_stmt-returns-in_err-of_value-in-For : goal.bodies_of_stmt-returns-in_err-of_value-in-For
-bodies_of_stmt-returns-in_err-of_value-in-For t c = search rules
-
-pub bodies_of_stmt-overflow_add-depth-in-For-3 : goal.bodies_of_stmt-overflow_add-depth-in-For-3
-bodies_of_stmt-overflow_add-depth-in-For-3 t c = omega (arith, c.requires)
-
 pub bodies_of_stmt-of_value-requires-in-For : goal.bodies_of_stmt-of_value-requires-in-For
 bodies_of_stmt-of_value-requires-in-For t c = let r = rw (c.in-For.is, stmt_levels-For) at c.requires in omega (arith, r)
-
-pub bodies_of_stmt-returns-in_err-of_value-in-For-2 : goal.bodies_of_stmt-returns-in_err-of_value-in-For-2
-bodies_of_stmt-returns-in_err-of_value-in-For-2 t c = search rules
-
-pub bodies_of_stmt-overflow_add-depth-in-For-4 : goal.bodies_of_stmt-overflow_add-depth-in-For-4
-bodies_of_stmt-overflow_add-depth-in-For-4 t c = omega (arith, c.requires)
 
 pub bodies_of_stmt-bodies_of_stmt-requires-in-For : goal.bodies_of_stmt-bodies_of_stmt-requires-in-For
 bodies_of_stmt-bodies_of_stmt-requires-in-For t c = let r = rw (c.in-For.is, stmt_levels-For) at c.requires in (search (rules, the_lemmas), rw c.get-in-For.ensures (omega (arith, r)))
 
-pub bodies_of_stmt-overflow_add-depth-in-ForOf : goal.bodies_of_stmt-overflow_add-depth-in-ForOf
-bodies_of_stmt-overflow_add-depth-in-ForOf t c = omega (arith, c.requires)
-
 pub bodies_of_stmt-of_target-requires : goal.bodies_of_stmt-of_target-requires
 bodies_of_stmt-of_target-requires t c = let r = rw (c.in-ForOf.is, stmt_levels-ForOf) at c.requires in omega (arith, r)
-
-pub bodies_of_stmt-returns-in_err-of_target-in-ForOf : goal.bodies_of_stmt-returns-in_err-of_target-in-ForOf
-bodies_of_stmt-returns-in_err-of_target-in-ForOf t c = search rules
-
-pub bodies_of_stmt-overflow_add-depth-in-ForOf-2 : goal.bodies_of_stmt-overflow_add-depth-in-ForOf-2
-bodies_of_stmt-overflow_add-depth-in-ForOf-2 t c = omega (arith, c.requires)
 
 pub bodies_of_stmt-of_expr-requires-in-ForOf : goal.bodies_of_stmt-of_expr-requires-in-ForOf
 bodies_of_stmt-of_expr-requires-in-ForOf t c = let r = rw (c.in-ForOf.is, stmt_levels-ForOf) at c.requires in omega (arith, r)
 
-pub bodies_of_stmt-returns-in_err-of_expr-in-ForOf : goal.bodies_of_stmt-returns-in_err-of_expr-in-ForOf
-bodies_of_stmt-returns-in_err-of_expr-in-ForOf t c = search rules
-
-pub bodies_of_stmt-overflow_add-depth-in-ForOf-3 : goal.bodies_of_stmt-overflow_add-depth-in-ForOf-3
-bodies_of_stmt-overflow_add-depth-in-ForOf-3 t c = omega (arith, c.requires)
-
 pub bodies_of_stmt-bodies_of_stmt-requires-in-ForOf : goal.bodies_of_stmt-bodies_of_stmt-requires-in-ForOf
 bodies_of_stmt-bodies_of_stmt-requires-in-ForOf t c = let r = rw (c.in-ForOf.is, stmt_levels-ForOf) at c.requires in (search (rules, the_lemmas), rw c.get-in-ForOf.ensures (omega (arith, r)))
-
-pub bodies_of_stmt-overflow_add-depth-in-Return : goal.bodies_of_stmt-overflow_add-depth-in-Return
-bodies_of_stmt-overflow_add-depth-in-Return t c = omega (arith, c.requires)
 
 pub bodies_of_stmt-of_value-requires-in-Return : goal.bodies_of_stmt-of_value-requires-in-Return
 bodies_of_stmt-of_value-requires-in-Return t c = let r = rw (c.in-Return.is, stmt_levels-Return) at c.requires in omega (arith, r)
 
-pub bodies_of_stmt-overflow_add-depth-in-Try : goal.bodies_of_stmt-overflow_add-depth-in-Try
-bodies_of_stmt-overflow_add-depth-in-Try t c = omega (arith, c.requires)
-
 pub bodies_of_stmt-bodies_of_stmts-requires-in-Try : goal.bodies_of_stmt-bodies_of_stmts-requires-in-Try
 bodies_of_stmt-bodies_of_stmts-requires-in-Try t c = let r = rw (c.in-Try.is, stmt_levels-Try) at c.requires in (search (rules, the_lemmas), rw c.as_slice-in-Try.ensures (omega (arith, r)))
-
-pub bodies_of_stmt-returns-in_err-bodies_of_stmts-in-Try : goal.bodies_of_stmt-returns-in_err-bodies_of_stmts-in-Try
-bodies_of_stmt-returns-in_err-bodies_of_stmts-in-Try t c = search rules
-
-pub bodies_of_stmt-overflow_add-depth-in-Try-2 : goal.bodies_of_stmt-overflow_add-depth-in-Try-2
-bodies_of_stmt-overflow_add-depth-in-Try-2 t c = omega (arith, c.requires)
 
 pub bodies_of_stmt-of_handler-requires : goal.bodies_of_stmt-of_handler-requires
 bodies_of_stmt-of_handler-requires t c = let r = rw (c.in-Try.is, stmt_levels-Try) at c.requires in (search (rules, the_lemmas), omega (arith, r))
 
-pub bodies_of_stmt-returns-in_err-of_handler-in-Try : goal.bodies_of_stmt-returns-in_err-of_handler-in-Try
-bodies_of_stmt-returns-in_err-of_handler-in-Try t c = search rules
-
-pub bodies_of_stmt-overflow_add-depth-in-Some : goal.bodies_of_stmt-overflow_add-depth-in-Some
-bodies_of_stmt-overflow_add-depth-in-Some t c = omega (arith, c.requires)
-
 pub bodies_of_stmt-bodies_of_stmts-requires-in-Some : goal.bodies_of_stmt-bodies_of_stmts-requires-in-Some
 bodies_of_stmt-bodies_of_stmts-requires-in-Some t c = let r = rw (c.in-Try.is, stmt_levels-Try, c.in-Some.is) at c.requires in (search (rules, the_lemmas), rw c.as_slice-in-Some.ensures (omega (arith, r)))
-
-pub bodies_of_stmt-overflow_add-depth-in-Throw : goal.bodies_of_stmt-overflow_add-depth-in-Throw
-bodies_of_stmt-overflow_add-depth-in-Throw t c = omega (arith, c.requires)
 
 pub bodies_of_stmt-of_expr-requires-in-Throw : goal.bodies_of_stmt-of_expr-requires-in-Throw
 bodies_of_stmt-of_expr-requires-in-Throw t c = elim c.in-Throw.is [ inl e ↦ let r = rw (e, stmt_levels-Throw) at c.requires in omega (arith, r) | inr h ↦ let r = rw (h, stmt_levels-Expr) at c.requires in omega (arith, r) ]
@@ -225,17 +129,8 @@ bodies_of_stmt-returns-in-Throw t c = let last = c.of_expr-in-Throw.ensures in e
 pub bodies_of_stmts-loop-item-init : goal.bodies_of_stmts-loop-item-init
 bodies_of_stmts-loop-item-init t c = (refl, c.requires)
 
-pub bodies_of_stmts-offset_bounds-items-item-index : goal.bodies_of_stmts-offset_bounds-items-item-index
-bodies_of_stmts-offset_bounds-items-item-index t c = search rules
-
 pub bodies_of_stmts-bodies_of_stmt-requires : goal.bodies_of_stmts-bodies_of_stmt-requires
 bodies_of_stmts-bodies_of_stmt-requires t c = let h : c.loop-item.item-index < length c.args.items.now = omega (arith, c.loop-item-test.true) in let e = highest-drop levels.stmt_levels c.args.items.now c.loop-item.item-index c.item-item.result h c.item-item.is in (search (rules, the_lemmas), omega (arith, e, c.loop-item.invariant.1))
-
-pub bodies_of_stmts-returns-in_err-bodies_of_stmt : goal.bodies_of_stmts-returns-in_err-bodies_of_stmt
-bodies_of_stmts-returns-in_err-bodies_of_stmt t c = search rules
-
-pub bodies_of_stmts-loop-item-smaller : goal.bodies_of_stmts-loop-item-smaller
-bodies_of_stmts-loop-item-smaller t c = search rules
 
 pub bodies_of_stmts-loop-item-preserved : goal.bodies_of_stmts-loop-item-preserved
 bodies_of_stmts-loop-item-preserved t c = let h : c.loop-item.item-index < length c.args.items.now = omega (arith, c.loop-item-test.true) in let e = highest-drop levels.stmt_levels c.args.items.now c.loop-item.item-index c.item-item.result h c.item-item.is in (all_more bodies.stmt_bodies c.args.items.now c.loop-item.item-index c.item-item.result c.args.depth c.loop-item.found c.bodies_of_stmt.new.found _ h c.item-item.is c.in_ok-bodies_of_stmt.ensures c.loop-item.invariant.0, omega (arith, e, c.loop-item.invariant.1))
@@ -245,9 +140,6 @@ bodies_of_stmts-returns t c = let h : length c.args.items.now ≤ c.loop-item.it
 
 pub of_catch-of_bound-requires : goal.of_catch-of_bound-requires
 of_catch-of_bound-requires t c = let r = rw (catch_levels-fields) at c.requires in omega (arith, r)
-
-pub of_catch-returns-in_err-of_bound : goal.of_catch-returns-in_err-of_bound
-of_catch-returns-in_err-of_bound t c = search rules
 
 pub of_catch-bodies_of_stmts-requires : goal.of_catch-bodies_of_stmts-requires
 of_catch-bodies_of_stmts-requires t c = let r = rw (catch_levels-fields) at c.requires in (search (rules, the_lemmas), rw c.as_slice.ensures (omega (arith, r)))

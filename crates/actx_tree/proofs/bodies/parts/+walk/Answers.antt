@@ -18,17 +18,8 @@ of_argument-returns t c = let last = c.of_expr.ensures in elim c.in-One.is [ inl
 pub of_arguments-loop-argument-init : goal.of_arguments-loop-argument-init
 of_arguments-loop-argument-init t c = (refl, c.requires)
 
-pub of_arguments-offset_bounds-arguments-argument-index : goal.of_arguments-offset_bounds-arguments-argument-index
-of_arguments-offset_bounds-arguments-argument-index t c = search rules
-
 pub of_arguments-of_argument-requires : goal.of_arguments-of_argument-requires
 of_arguments-of_argument-requires t c = let h : c.loop-argument.argument-index < length c.args.arguments.now = omega (arith, c.loop-argument-test.true) in let e = highest-drop levels.argument_levels c.args.arguments.now c.loop-argument.argument-index c.argument-item.result h c.argument-item.is in (search (rules, the_lemmas), omega (arith, e, c.loop-argument.invariant.1))
-
-pub of_arguments-returns-in_err-of_argument : goal.of_arguments-returns-in_err-of_argument
-of_arguments-returns-in_err-of_argument t c = search rules
-
-pub of_arguments-loop-argument-smaller : goal.of_arguments-loop-argument-smaller
-of_arguments-loop-argument-smaller t c = search rules
 
 pub of_arguments-loop-argument-preserved : goal.of_arguments-loop-argument-preserved
 of_arguments-loop-argument-preserved t c = let h : c.loop-argument.argument-index < length c.args.arguments.now = omega (arith, c.loop-argument-test.true) in let e = highest-drop levels.argument_levels c.args.arguments.now c.loop-argument.argument-index c.argument-item.result h c.argument-item.is in (all_more bodies.argument_bodies c.args.arguments.now c.loop-argument.argument-index c.argument-item.result c.args.depth c.loop-argument.found c.of_argument.new.found _ h c.argument-item.is c.in_ok-of_argument.ensures c.loop-argument.invariant.0, omega (arith, e, c.loop-argument.invariant.1))
@@ -36,17 +27,8 @@ of_arguments-loop-argument-preserved t c = let h : c.loop-argument.argument-inde
 pub of_arguments-returns : goal.of_arguments-returns
 of_arguments-returns t c = let h : length c.args.arguments.now ≤ c.loop-argument.argument-index = omega (arith, c.loop-argument-test.false) in all_done bodies.argument_bodies c.args.arguments.now c.loop-argument.argument-index c.args.depth c.loop-argument.found _ h c.loop-argument.invariant.0
 
-pub of_class-overflow_add-depth : goal.of_class-overflow_add-depth
-of_class-overflow_add-depth t c = omega (arith, c.requires)
-
 pub of_class-of_optional-requires : goal.of_class-of_optional-requires
 of_class-of_optional-requires t c = let r = rw (class_levels-fields) at c.requires in (search (rules, the_lemmas), omega (arith, r))
-
-pub of_class-returns-in_err-of_optional : goal.of_class-returns-in_err-of_optional
-of_class-returns-in_err-of_optional t c = search rules
-
-pub of_class-overflow_add-depth-2 : goal.of_class-overflow_add-depth-2
-of_class-overflow_add-depth-2 t c = omega (arith, c.requires)
 
 pub of_class-of_members-requires : goal.of_class-of_members-requires
 of_class-of_members-requires t c = let r = rw (class_levels-fields) at c.requires in (search (rules, the_lemmas), rw c.as_slice.ensures (omega (arith, r)))
@@ -57,9 +39,6 @@ of_class-returns t c = let s1 = c.in_ok-of_optional.ensures in let last = rw c.a
 pub of_elem-of_target-requires : goal.of_elem-of_target-requires
 of_elem-of_target-requires t c = let r = rw (elem_levels-fields) at c.requires in (search (rules, the_lemmas), omega (arith, r))
 
-pub of_elem-returns-in_err-of_target : goal.of_elem-returns-in_err-of_target
-of_elem-returns-in_err-of_target t c = search rules
-
 pub of_elem-of_optional-requires : goal.of_elem-of_optional-requires
 of_elem-of_optional-requires t c = let r = rw (elem_levels-fields) at c.requires in (search (rules, the_lemmas), omega (arith, r))
 
@@ -69,17 +48,8 @@ of_elem-returns t c = let s1 = c.in_ok-of_target.ensures in let last = c.of_opti
 pub of_elems-loop-elem-init : goal.of_elems-loop-elem-init
 of_elems-loop-elem-init t c = (refl, c.requires)
 
-pub of_elems-offset_bounds-elems-elem-index : goal.of_elems-offset_bounds-elems-elem-index
-of_elems-offset_bounds-elems-elem-index t c = search rules
-
 pub of_elems-of_elem-requires : goal.of_elems-of_elem-requires
 of_elems-of_elem-requires t c = let h : c.loop-elem.elem-index < length c.args.elems.now = omega (arith, c.loop-elem-test.true) in let e = highest-drop levels.elem_levels c.args.elems.now c.loop-elem.elem-index c.elem-item.result h c.elem-item.is in (search (rules, the_lemmas), omega (arith, e, c.loop-elem.invariant.1))
-
-pub of_elems-returns-in_err-of_elem : goal.of_elems-returns-in_err-of_elem
-of_elems-returns-in_err-of_elem t c = search rules
-
-pub of_elems-loop-elem-smaller : goal.of_elems-loop-elem-smaller
-of_elems-loop-elem-smaller t c = search rules
 
 pub of_elems-loop-elem-preserved : goal.of_elems-loop-elem-preserved
 of_elems-loop-elem-preserved t c = let h : c.loop-elem.elem-index < length c.args.elems.now = omega (arith, c.loop-elem-test.true) in let e = highest-drop levels.elem_levels c.args.elems.now c.loop-elem.elem-index c.elem-item.result h c.elem-item.is in (all_more bodies.elem_bodies c.args.elems.now c.loop-elem.elem-index c.elem-item.result c.args.depth c.loop-elem.found c.of_elem.new.found _ h c.elem-item.is c.in_ok-of_elem.ensures c.loop-elem.invariant.0, omega (arith, e, c.loop-elem.invariant.1))
@@ -90,17 +60,8 @@ of_elems-returns t c = let h : length c.args.elems.now ≤ c.loop-elem.elem-inde
 pub of_entries-loop-entry-init : goal.of_entries-loop-entry-init
 of_entries-loop-entry-init t c = (refl, c.requires)
 
-pub of_entries-offset_bounds-entries-entry-index : goal.of_entries-offset_bounds-entries-entry-index
-of_entries-offset_bounds-entries-entry-index t c = search rules
-
 pub of_entries-of_entry-requires : goal.of_entries-of_entry-requires
 of_entries-of_entry-requires t c = let h : c.loop-entry.entry-index < length c.args.entries.now = omega (arith, c.loop-entry-test.true) in let e = highest-drop levels.entry_levels c.args.entries.now c.loop-entry.entry-index c.entry-item.result h c.entry-item.is in (search (rules, the_lemmas), omega (arith, e, c.loop-entry.invariant.1))
-
-pub of_entries-returns-in_err-of_entry : goal.of_entries-returns-in_err-of_entry
-of_entries-returns-in_err-of_entry t c = search rules
-
-pub of_entries-loop-entry-smaller : goal.of_entries-loop-entry-smaller
-of_entries-loop-entry-smaller t c = search rules
 
 pub of_entries-loop-entry-preserved : goal.of_entries-loop-entry-preserved
 of_entries-loop-entry-preserved t c = let h : c.loop-entry.entry-index < length c.args.entries.now = omega (arith, c.loop-entry-test.true) in let e = highest-drop levels.entry_levels c.args.entries.now c.loop-entry.entry-index c.entry-item.result h c.entry-item.is in (all_more bodies.entry_bodies c.args.entries.now c.loop-entry.entry-index c.entry-item.result c.args.depth c.loop-entry.found c.of_entry.new.found _ h c.entry-item.is c.in_ok-of_entry.ensures c.loop-entry.invariant.0, omega (arith, e, c.loop-entry.invariant.1))
@@ -113,9 +74,6 @@ of_entry-of_expr-requires t c = let r = rw (c.in-Spread.is, entry_levels-Spread)
 
 pub of_entry-of_key-requires : goal.of_entry-of_key-requires
 of_entry-of_key-requires t c = let r = rw (c.in-Pair.is, entry_levels-Pair) at c.requires in (search (rules, the_lemmas), omega (arith, r))
-
-pub of_entry-returns-in_err-of_key-in-Pair : goal.of_entry-returns-in_err-of_key-in-Pair
-of_entry-returns-in_err-of_key-in-Pair t c = search rules
 
 pub of_entry-of_expr-requires-in-Pair : goal.of_entry-of_expr-requires-in-Pair
 of_entry-of_expr-requires-in-Pair t c = let r = rw (c.in-Pair.is, entry_levels-Pair) at c.requires in (search (rules, the_lemmas), omega (arith, r))
@@ -135,14 +93,8 @@ of_entry-returns-in_ok-of_key-in-Pair t c = let s1 = c.in_ok-of_key-in-Pair.ensu
 pub of_entry-returns-in-Method : goal.of_entry-returns-in-Method
 of_entry-returns-in-Method t c = let last = c.of_method.ensures in rw (c.in-Method.is, entry_bodies-Method) last
 
-pub of_expr-overflow_add-depth : goal.of_expr-overflow_add-depth
-of_expr-overflow_add-depth t c = omega (arith, c.requires)
-
 pub of_expr-of_pieces-requires : goal.of_expr-of_pieces-requires
 of_expr-of_pieces-requires t c = let r = rw (c.in-Template.is, expr_levels-Template) at c.requires in (search (rules, the_lemmas), rw c.as_slice.ensures (omega (arith, r)))
-
-pub of_expr-overflow_add-depth-in-Object : goal.of_expr-overflow_add-depth-in-Object
-of_expr-overflow_add-depth-in-Object t c = omega (arith, c.requires)
 
 pub of_expr-of_entries-requires : goal.of_expr-of_entries-requires
 of_expr-of_entries-requires t c = let r = rw (c.in-Object.is, expr_levels-Object) at c.requires in (search (rules, the_lemmas), rw c.as_slice-in-Object.ensures (omega (arith, r)))
@@ -153,155 +105,65 @@ of_expr-of_function-requires t c = let r = rw (c.in-Function.is, expr_levels-Fun
 pub of_expr-of_class-requires : goal.of_expr-of_class-requires
 of_expr-of_class-requires t c = let r = rw (c.in-Class.is, expr_levels-Class) at c.requires in (search (rules, the_lemmas), omega (arith, r))
 
-pub of_expr-overflow_add-depth-in-New : goal.of_expr-overflow_add-depth-in-New
-of_expr-overflow_add-depth-in-New t c = omega (arith, c.requires)
-
 pub of_expr-of_expr-requires : goal.of_expr-of_expr-requires
 of_expr-of_expr-requires t c = let r = rw (c.in-New.is, expr_levels-New) at c.requires in (search (rules, the_lemmas), rw c.get.ensures (omega (arith, r)))
-
-pub of_expr-returns-in_err-of_expr-in-New : goal.of_expr-returns-in_err-of_expr-in-New
-of_expr-returns-in_err-of_expr-in-New t c = search rules
-
-pub of_expr-overflow_add-depth-in-New-2 : goal.of_expr-overflow_add-depth-in-New-2
-of_expr-overflow_add-depth-in-New-2 t c = omega (arith, c.requires)
 
 pub of_expr-of_suffixes-requires : goal.of_expr-of_suffixes-requires
 of_expr-of_suffixes-requires t c = let r = rw (c.in-New.is, expr_levels-New) at c.requires in (search (rules, the_lemmas), rw c.as_slice-in-New.ensures (omega (arith, r)))
 
-pub of_expr-returns-in_err-of_suffixes-in-New : goal.of_expr-returns-in_err-of_suffixes-in-New
-of_expr-returns-in_err-of_suffixes-in-New t c = search rules
-
-pub of_expr-overflow_add-depth-in-Some : goal.of_expr-overflow_add-depth-in-Some
-of_expr-overflow_add-depth-in-Some t c = omega (arith, c.requires)
-
 pub of_expr-of_arguments-requires : goal.of_expr-of_arguments-requires
 of_expr-of_arguments-requires t c = let r = rw (c.in-New.is, expr_levels-New, c.in-Some.is) at c.requires in (search (rules, the_lemmas), rw c.as_slice-in-Some.ensures (omega (arith, r)))
-
-pub of_expr-overflow_add-depth-in-Left : goal.of_expr-overflow_add-depth-in-Left
-of_expr-overflow_add-depth-in-Left t c = omega (arith, c.requires)
 
 pub of_expr-of_expr-requires-in-Left : goal.of_expr-of_expr-requires-in-Left
 of_expr-of_expr-requires-in-Left t c = let r = rw (c.in-Left.is, expr_levels-Left) at c.requires in (search (rules, the_lemmas), rw c.get-in-Left.ensures (omega (arith, r)))
 
-pub of_expr-returns-in_err-of_expr-in-Left : goal.of_expr-returns-in_err-of_expr-in-Left
-of_expr-returns-in_err-of_expr-in-Left t c = search rules
-
-pub of_expr-overflow_add-depth-in-Left-2 : goal.of_expr-overflow_add-depth-in-Left-2
-of_expr-overflow_add-depth-in-Left-2 t c = omega (arith, c.requires)
-
 pub of_expr-of_suffixes-requires-in-Left : goal.of_expr-of_suffixes-requires-in-Left
 of_expr-of_suffixes-requires-in-Left t c = let r = rw (c.in-Left.is, expr_levels-Left) at c.requires in (search (rules, the_lemmas), rw c.as_slice-in-Left.ensures (omega (arith, r)))
-
-pub of_expr-overflow_add-depth-in-Chain : goal.of_expr-overflow_add-depth-in-Chain
-of_expr-overflow_add-depth-in-Chain t c = omega (arith, c.requires)
 
 pub of_expr-of_expr-requires-in-Chain : goal.of_expr-of_expr-requires-in-Chain
 of_expr-of_expr-requires-in-Chain t c = let r = rw (c.in-Chain.is, expr_levels-Chain) at c.requires in (search (rules, the_lemmas), rw c.get-in-Chain.ensures (omega (arith, r)))
 
-pub of_expr-returns-in_err-of_expr-in-Chain : goal.of_expr-returns-in_err-of_expr-in-Chain
-of_expr-returns-in_err-of_expr-in-Chain t c = search rules
-
-pub of_expr-overflow_add-depth-in-Chain-2 : goal.of_expr-overflow_add-depth-in-Chain-2
-of_expr-overflow_add-depth-in-Chain-2 t c = omega (arith, c.requires)
-
 pub of_expr-of_operands-requires : goal.of_expr-of_operands-requires
 of_expr-of_operands-requires t c = let r = rw (c.in-Chain.is, expr_levels-Chain) at c.requires in (search (rules, the_lemmas), rw c.as_slice-in-Chain.ensures (omega (arith, r)))
-
-pub of_expr-overflow_add-depth-in-Conditional : goal.of_expr-overflow_add-depth-in-Conditional
-of_expr-overflow_add-depth-in-Conditional t c = omega (arith, c.requires)
 
 pub of_expr-of_expr-requires-in-Conditional : goal.of_expr-of_expr-requires-in-Conditional
 of_expr-of_expr-requires-in-Conditional t c = let r = rw (c.in-Conditional.is, expr_levels-Conditional) at c.requires in (search (rules, the_lemmas), rw c.get-in-Conditional.ensures (omega (arith, r)))
 
-pub of_expr-returns-in_err-of_expr-in-Conditional : goal.of_expr-returns-in_err-of_expr-in-Conditional
-of_expr-returns-in_err-of_expr-in-Conditional t c = search rules
-
-pub of_expr-overflow_add-depth-in-Conditional-2 : goal.of_expr-overflow_add-depth-in-Conditional-2
-of_expr-overflow_add-depth-in-Conditional-2 t c = omega (arith, c.requires)
-
 pub of_expr-of_expr-requires-in-Conditional-2 : goal.of_expr-of_expr-requires-in-Conditional-2
 of_expr-of_expr-requires-in-Conditional-2 t c = let r = rw (c.in-Conditional.is, expr_levels-Conditional) at c.requires in (search (rules, the_lemmas), rw c.get-in-Conditional-2.ensures (omega (arith, r)))
-
-pub of_expr-returns-in_err-of_expr-in-Conditional-2 : goal.of_expr-returns-in_err-of_expr-in-Conditional-2
-of_expr-returns-in_err-of_expr-in-Conditional-2 t c = search rules
-
-pub of_expr-overflow_add-depth-in-Conditional-3 : goal.of_expr-overflow_add-depth-in-Conditional-3
-of_expr-overflow_add-depth-in-Conditional-3 t c = omega (arith, c.requires)
 
 pub of_expr-of_expr-requires-in-Conditional-3 : goal.of_expr-of_expr-requires-in-Conditional-3
 of_expr-of_expr-requires-in-Conditional-3 t c = let r = rw (c.in-Conditional.is, expr_levels-Conditional) at c.requires in (search (rules, the_lemmas), rw c.get-in-Conditional-3.ensures (omega (arith, r)))
 
-pub of_expr-overflow_add-depth-in-Assign : goal.of_expr-overflow_add-depth-in-Assign
-of_expr-overflow_add-depth-in-Assign t c = omega (arith, c.requires)
-
 pub of_expr-of_expr-requires-in-Assign : goal.of_expr-of_expr-requires-in-Assign
 of_expr-of_expr-requires-in-Assign t c = let r = rw (c.in-Assign.is, expr_levels-Assign) at c.requires in (search (rules, the_lemmas), rw c.get-in-Assign.ensures (omega (arith, r)))
-
-pub of_expr-returns-in_err-of_expr-in-Assign : goal.of_expr-returns-in_err-of_expr-in-Assign
-of_expr-returns-in_err-of_expr-in-Assign t c = search rules
-
-pub of_expr-overflow_add-depth-in-Assign-2 : goal.of_expr-overflow_add-depth-in-Assign-2
-of_expr-overflow_add-depth-in-Assign-2 t c = omega (arith, c.requires)
 
 pub of_expr-of_expr-requires-in-Assign-2 : goal.of_expr-of_expr-requires-in-Assign-2
 of_expr-of_expr-requires-in-Assign-2 t c = let r = rw (c.in-Assign.is, expr_levels-Assign) at c.requires in (search (rules, the_lemmas), rw c.get-in-Assign-2.ensures (omega (arith, r)))
 
-pub of_expr-overflow_add-depth-in-Yield : goal.of_expr-overflow_add-depth-in-Yield
-of_expr-overflow_add-depth-in-Yield t c = omega (arith, c.requires)
-
 pub of_expr-of_optional-requires : goal.of_expr-of_optional-requires
 of_expr-of_optional-requires t c = let r = rw (c.in-Yield.is, expr_levels-Yield) at c.requires in (search (rules, the_lemmas), omega (arith, r))
-
-pub of_expr-overflow_add-depth-in-Arrow : goal.of_expr-overflow_add-depth-in-Arrow
-of_expr-overflow_add-depth-in-Arrow t c = omega (arith, c.requires)
 
 pub of_expr-of_params-requires : goal.of_expr-of_params-requires
 of_expr-of_params-requires t c = let r = rw (c.in-Arrow.is, expr_levels-Arrow) at c.requires in (search (rules, the_lemmas), omega (arith, r))
 
-pub of_expr-returns-in_err-of_params-in-Arrow : goal.of_expr-returns-in_err-of_params-in-Arrow
-of_expr-returns-in_err-of_params-in-Arrow t c = search rules
-
-pub of_expr-overflow_add-depth-in-Arrow-2 : goal.of_expr-overflow_add-depth-in-Arrow-2
-of_expr-overflow_add-depth-in-Arrow-2 t c = omega (arith, c.requires)
-
 pub of_expr-of_expr-requires-in-Arrow : goal.of_expr-of_expr-requires-in-Arrow
 of_expr-of_expr-requires-in-Arrow t c = let r = rw (c.in-Arrow.is, expr_levels-Arrow) at c.requires in (search (rules, the_lemmas), rw c.get-in-Arrow.ensures (omega (arith, r)))
-
-pub of_expr-overflow_add-depth-in-ArrowBlock : goal.of_expr-overflow_add-depth-in-ArrowBlock
-of_expr-overflow_add-depth-in-ArrowBlock t c = omega (arith, c.requires)
 
 pub of_expr-of_params-requires-in-ArrowBlock : goal.of_expr-of_params-requires-in-ArrowBlock
 of_expr-of_params-requires-in-ArrowBlock t c = let r = rw (c.in-ArrowBlock.is, expr_levels-ArrowBlock) at c.requires in (search (rules, the_lemmas), omega (arith, r))
 
-pub of_expr-returns-in_err-of_params-in-ArrowBlock : goal.of_expr-returns-in_err-of_params-in-ArrowBlock
-of_expr-returns-in_err-of_params-in-ArrowBlock t c = search rules
-
 pub of_expr-add-requires : goal.of_expr-add-requires
 of_expr-add-requires t c = let r = rw (c.in-ArrowBlock.is, expr_levels-ArrowBlock) at c.requires in omega (arith, r)
-
-pub of_expr-overflow_add-depth-in-Comma : goal.of_expr-overflow_add-depth-in-Comma
-of_expr-overflow_add-depth-in-Comma t c = omega (arith, c.requires)
 
 pub of_expr-of_expr-requires-in-Comma : goal.of_expr-of_expr-requires-in-Comma
 of_expr-of_expr-requires-in-Comma t c = let r = rw (c.in-Comma.is, expr_levels-Comma) at c.requires in (search (rules, the_lemmas), rw c.get-in-Comma.ensures (omega (arith, r)))
 
-pub of_expr-returns-in_err-of_expr-in-Comma : goal.of_expr-returns-in_err-of_expr-in-Comma
-of_expr-returns-in_err-of_expr-in-Comma t c = search rules
-
-pub of_expr-overflow_add-depth-in-Comma-2 : goal.of_expr-overflow_add-depth-in-Comma-2
-of_expr-overflow_add-depth-in-Comma-2 t c = omega (arith, c.requires)
-
 pub of_expr-of_exprs-requires : goal.of_expr-of_exprs-requires
 of_expr-of_exprs-requires t c = let r = rw (c.in-Comma.is, expr_levels-Comma) at c.requires in (search (rules, the_lemmas), rw c.as_slice-in-Comma.ensures (omega (arith, r)))
 
-pub of_expr-overflow_add-depth-in-Array : goal.of_expr-overflow_add-depth-in-Array
-of_expr-overflow_add-depth-in-Array t c = omega (arith, c.requires)
-
 pub of_expr-of_arguments-requires-in-Array : goal.of_expr-of_arguments-requires-in-Array
 of_expr-of_arguments-requires-in-Array t c = (search (rules, the_lemmas), elim c.in-Array.is [ inl e ↦ let r = rw (e, expr_levels-Array) at c.requires in rw c.as_slice-in-Array.ensures (omega (arith, r)) | inr h ↦ let r = rw (h, expr_levels-SuperCall) at c.requires in rw c.as_slice-in-Array.ensures (omega (arith, r)) ])
-
-pub of_expr-overflow_add-depth-in-Brackets : goal.of_expr-overflow_add-depth-in-Brackets
-of_expr-overflow_add-depth-in-Brackets t c = omega (arith, c.requires)
 
 pub of_expr-of_expr-requires-in-Brackets : goal.of_expr-of_expr-requires-in-Brackets
 of_expr-of_expr-requires-in-Brackets t c = (search (rules, the_lemmas), elim c.in-Brackets.is [ inl e ↦ let r = rw (e, expr_levels-Brackets) at c.requires in rw c.get-in-Brackets.ensures (omega (arith, r)) | inr h ↦ elim h [ inl e ↦ let r = rw (e.1, expr_levels-StepBefore) at c.requires in rw c.get-in-Brackets.ensures (omega (arith, r)) | inr h ↦ elim h [ inl e ↦ let r = rw (e.1, expr_levels-StepAfter) at c.requires in rw c.get-in-Brackets.ensures (omega (arith, r)) | inr h ↦ let r = rw (h.1, expr_levels-Unary) at c.requires in rw c.get-in-Brackets.ensures (omega (arith, r)) ] ] ])
@@ -378,17 +240,8 @@ of_expr-returns-in-Brackets t c = let last = rw c.get-in-Brackets.ensures at c.o
 pub of_exprs-loop-tree-init : goal.of_exprs-loop-tree-init
 of_exprs-loop-tree-init t c = (refl, c.requires)
 
-pub of_exprs-offset_bounds-trees-tree-index : goal.of_exprs-offset_bounds-trees-tree-index
-of_exprs-offset_bounds-trees-tree-index t c = search rules
-
 pub of_exprs-of_expr-requires : goal.of_exprs-of_expr-requires
 of_exprs-of_expr-requires t c = let h : c.loop-tree.tree-index < length c.args.trees.now = omega (arith, c.loop-tree-test.true) in let e = highest-drop levels.expr_levels c.args.trees.now c.loop-tree.tree-index c.tree-item.result h c.tree-item.is in (search (rules, the_lemmas), omega (arith, e, c.loop-tree.invariant.1))
-
-pub of_exprs-returns-in_err-of_expr : goal.of_exprs-returns-in_err-of_expr
-of_exprs-returns-in_err-of_expr t c = search rules
-
-pub of_exprs-loop-tree-smaller : goal.of_exprs-loop-tree-smaller
-of_exprs-loop-tree-smaller t c = search rules
 
 pub of_exprs-loop-tree-preserved : goal.of_exprs-loop-tree-preserved
 of_exprs-loop-tree-preserved t c = let h : c.loop-tree.tree-index < length c.args.trees.now = omega (arith, c.loop-tree-test.true) in let e = highest-drop levels.expr_levels c.args.trees.now c.loop-tree.tree-index c.tree-item.result h c.tree-item.is in (all_more bodies.expr_bodies c.args.trees.now c.loop-tree.tree-index c.tree-item.result c.args.depth c.loop-tree.found c.of_expr.new.found _ h c.tree-item.is c.in_ok-of_expr.ensures c.loop-tree.invariant.0, omega (arith, e, c.loop-tree.invariant.1))
@@ -396,14 +249,8 @@ of_exprs-loop-tree-preserved t c = let h : c.loop-tree.tree-index < length c.arg
 pub of_exprs-returns : goal.of_exprs-returns
 of_exprs-returns t c = let h : length c.args.trees.now ≤ c.loop-tree.tree-index = omega (arith, c.loop-tree-test.false) in all_done bodies.expr_bodies c.args.trees.now c.loop-tree.tree-index c.args.depth c.loop-tree.found _ h c.loop-tree.invariant.0
 
-pub of_function-overflow_add-depth : goal.of_function-overflow_add-depth
-of_function-overflow_add-depth t c = omega (arith, c.requires)
-
 pub of_function-of_params-requires : goal.of_function-of_params-requires
 of_function-of_params-requires t c = let r = rw (function_levels-fields) at c.requires in (search (rules, the_lemmas), omega (arith, r))
-
-pub of_function-returns-in_err-of_params : goal.of_function-returns-in_err-of_params
-of_function-returns-in_err-of_params t c = search rules
 
 pub of_function-add-requires : goal.of_function-add-requires
 of_function-add-requires t c = let r = rw (function_levels-fields) at c.requires in omega (arith, r)
@@ -429,17 +276,8 @@ of_key-returns-in-Word-3 t c = elim c.in-Word.is [ inl e ↦ rw (e.1, key_bodies
 pub of_members-loop-member-init : goal.of_members-loop-member-init
 of_members-loop-member-init t c = (refl, c.requires)
 
-pub of_members-offset_bounds-members-member-index : goal.of_members-offset_bounds-members-member-index
-of_members-offset_bounds-members-member-index t c = search rules
-
 pub of_members-of_method-requires : goal.of_members-of_method-requires
 of_members-of_method-requires t c = let h : c.loop-member.member-index < length c.args.members.now = omega (arith, c.loop-member-test.true) in let e = highest-drop levels.member_levels c.args.members.now c.loop-member.member-index c.member-item.result h c.member-item.is in (search (rules, the_lemmas), omega (arith, e, c.loop-member.invariant.1, member_levels-fields c.member-item.result))
-
-pub of_members-returns-in_err-of_method : goal.of_members-returns-in_err-of_method
-of_members-returns-in_err-of_method t c = search rules
-
-pub of_members-loop-member-smaller : goal.of_members-loop-member-smaller
-of_members-loop-member-smaller t c = search rules
 
 pub of_members-loop-member-preserved : goal.of_members-loop-member-preserved
 of_members-loop-member-preserved t c = let h : c.loop-member.member-index < length c.args.members.now = omega (arith, c.loop-member-test.true) in let e = highest-drop levels.member_levels c.args.members.now c.loop-member.member-index c.member-item.result h c.member-item.is in (all_more bodies.member_bodies c.args.members.now c.loop-member.member-index c.member-item.result c.args.depth c.loop-member.found c.of_method.new.found _ h c.member-item.is (rw (member_bodies-fields c.member-item.result c.args.depth) c.in_ok-of_method.ensures) c.loop-member.invariant.0, omega (arith, e, c.loop-member.invariant.1))
@@ -447,23 +285,11 @@ of_members-loop-member-preserved t c = let h : c.loop-member.member-index < leng
 pub of_members-returns : goal.of_members-returns
 of_members-returns t c = let h : length c.args.members.now ≤ c.loop-member.member-index = omega (arith, c.loop-member-test.false) in all_done bodies.member_bodies c.args.members.now c.loop-member.member-index c.args.depth c.loop-member.found _ h c.loop-member.invariant.0
 
-pub of_method-overflow_add-depth : goal.of_method-overflow_add-depth
-of_method-overflow_add-depth t c = omega (arith, c.requires)
-
 pub of_method-of_key-requires : goal.of_method-of_key-requires
 of_method-of_key-requires t c = let r = rw (method_levels-fields) at c.requires in (search (rules, the_lemmas), omega (arith, r))
 
-pub of_method-returns-in_err-of_key : goal.of_method-returns-in_err-of_key
-of_method-returns-in_err-of_key t c = search rules
-
-pub of_method-overflow_add-depth-2 : goal.of_method-overflow_add-depth-2
-of_method-overflow_add-depth-2 t c = omega (arith, c.requires)
-
 pub of_method-of_params-requires : goal.of_method-of_params-requires
 of_method-of_params-requires t c = let r = rw (method_levels-fields) at c.requires in (search (rules, the_lemmas), omega (arith, r))
-
-pub of_method-returns-in_err-of_params : goal.of_method-returns-in_err-of_params
-of_method-returns-in_err-of_params t c = search rules
 
 pub of_method-add-requires : goal.of_method-add-requires
 of_method-add-requires t c = let r = rw (method_levels-fields) at c.requires in omega (arith, r)
@@ -474,17 +300,8 @@ of_method-returns t c = let s1 = c.in_ok-of_key.ensures in let s2 = c.in_ok-of_p
 pub of_operands-loop-operand-init : goal.of_operands-loop-operand-init
 of_operands-loop-operand-init t c = (refl, c.requires)
 
-pub of_operands-offset_bounds-operands-operand-index : goal.of_operands-offset_bounds-operands-operand-index
-of_operands-offset_bounds-operands-operand-index t c = search rules
-
 pub of_operands-of_expr-requires : goal.of_operands-of_expr-requires
 of_operands-of_expr-requires t c = let h : c.loop-operand.operand-index < length c.args.operands.now = omega (arith, c.loop-operand-test.true) in let e = highest-drop levels.operand_levels c.args.operands.now c.loop-operand.operand-index c.operand-item.result h c.operand-item.is in (search (rules, the_lemmas), omega (arith, e, c.loop-operand.invariant.1, operand_levels-fields c.operand-item.result))
-
-pub of_operands-returns-in_err-of_expr : goal.of_operands-returns-in_err-of_expr
-of_operands-returns-in_err-of_expr t c = search rules
-
-pub of_operands-loop-operand-smaller : goal.of_operands-loop-operand-smaller
-of_operands-loop-operand-smaller t c = search rules
 
 pub of_operands-loop-operand-preserved : goal.of_operands-loop-operand-preserved
 of_operands-loop-operand-preserved t c = let h : c.loop-operand.operand-index < length c.args.operands.now = omega (arith, c.loop-operand-test.true) in let e = highest-drop levels.operand_levels c.args.operands.now c.loop-operand.operand-index c.operand-item.result h c.operand-item.is in (all_more bodies.operand_bodies c.args.operands.now c.loop-operand.operand-index c.operand-item.result c.args.depth c.loop-operand.found c.of_expr.new.found _ h c.operand-item.is (rw (operand_bodies-fields c.operand-item.result c.args.depth) c.in_ok-of_expr.ensures) c.loop-operand.invariant.0, omega (arith, e, c.loop-operand.invariant.1))
@@ -504,9 +321,6 @@ of_optional-returns-in-None t c = rw (c.in-None.is, append-nil)
 pub of_params-of_elems-requires : goal.of_params-of_elems-requires
 of_params-of_elems-requires t c = let r = rw (params_levels-fields) at c.requires in (search (rules, the_lemmas), rw c.as_slice.ensures (omega (arith, r)))
 
-pub of_params-returns-in_err-of_elems : goal.of_params-returns-in_err-of_elems
-of_params-returns-in_err-of_elems t c = search rules
-
 pub of_params-of_target-requires : goal.of_params-of_target-requires
 of_params-of_target-requires t c = let r = rw (params_levels-fields, c.in-Some.is) at c.requires in (search (rules, the_lemmas), rw c.get.ensures (omega (arith, r)))
 
@@ -519,17 +333,8 @@ of_params-returns-in-None t c = let s1 = rw c.as_slice.ensures at c.in_ok-of_ele
 pub of_pieces-loop-piece-init : goal.of_pieces-loop-piece-init
 of_pieces-loop-piece-init t c = (refl, c.requires)
 
-pub of_pieces-offset_bounds-pieces-piece-index : goal.of_pieces-offset_bounds-pieces-piece-index
-of_pieces-offset_bounds-pieces-piece-index t c = search rules
-
 pub of_pieces-of_expr-requires : goal.of_pieces-of_expr-requires
 of_pieces-of_expr-requires t c = let h : c.loop-piece.piece-index < length c.args.pieces.now = omega (arith, c.loop-piece-test.true) in let e = highest-drop levels.piece_levels c.args.pieces.now c.loop-piece.piece-index c.piece-item.result h c.piece-item.is in (search (rules, the_lemmas), omega (arith, e, c.loop-piece.invariant.1, piece_levels-fields c.piece-item.result))
-
-pub of_pieces-returns-in_err-of_expr : goal.of_pieces-returns-in_err-of_expr
-of_pieces-returns-in_err-of_expr t c = search rules
-
-pub of_pieces-loop-piece-smaller : goal.of_pieces-loop-piece-smaller
-of_pieces-loop-piece-smaller t c = search rules
 
 pub of_pieces-loop-piece-preserved : goal.of_pieces-loop-piece-preserved
 of_pieces-loop-piece-preserved t c = let h : c.loop-piece.piece-index < length c.args.pieces.now = omega (arith, c.loop-piece-test.true) in let e = highest-drop levels.piece_levels c.args.pieces.now c.loop-piece.piece-index c.piece-item.result h c.piece-item.is in (all_more bodies.piece_bodies c.args.pieces.now c.loop-piece.piece-index c.piece-item.result c.args.depth c.loop-piece.found c.of_expr.new.found _ h c.piece-item.is (rw (piece_bodies-fields c.piece-item.result c.args.depth) c.in_ok-of_expr.ensures) c.loop-piece.invariant.0, omega (arith, e, c.loop-piece.invariant.1))
@@ -543,9 +348,6 @@ of_prop-of_optional-requires t c = let r = rw (c.in-Shorthand.is, prop_levels-Sh
 pub of_prop-of_key-requires : goal.of_prop-of_key-requires
 of_prop-of_key-requires t c = let r = rw (c.in-Pair.is, prop_levels-Pair) at c.requires in (search (rules, the_lemmas), omega (arith, r))
 
-pub of_prop-returns-in_err-of_key-in-Pair : goal.of_prop-returns-in_err-of_key-in-Pair
-of_prop-returns-in_err-of_key-in-Pair t c = search rules
-
 pub of_prop-of_elem-requires : goal.of_prop-of_elem-requires
 of_prop-of_elem-requires t c = let r = rw (c.in-Pair.is, prop_levels-Pair) at c.requires in (search (rules, the_lemmas), omega (arith, r))
 
@@ -558,17 +360,8 @@ of_prop-returns-in_ok-of_key-in-Pair t c = let s1 = c.in_ok-of_key-in-Pair.ensur
 pub of_props-loop-prop-init : goal.of_props-loop-prop-init
 of_props-loop-prop-init t c = (refl, c.requires)
 
-pub of_props-offset_bounds-props-prop-index : goal.of_props-offset_bounds-props-prop-index
-of_props-offset_bounds-props-prop-index t c = search rules
-
 pub of_props-of_prop-requires : goal.of_props-of_prop-requires
 of_props-of_prop-requires t c = let h : c.loop-prop.prop-index < length c.args.props.now = omega (arith, c.loop-prop-test.true) in let e = highest-drop levels.prop_levels c.args.props.now c.loop-prop.prop-index c.prop-item.result h c.prop-item.is in (search (rules, the_lemmas), omega (arith, e, c.loop-prop.invariant.1))
-
-pub of_props-returns-in_err-of_prop : goal.of_props-returns-in_err-of_prop
-of_props-returns-in_err-of_prop t c = search rules
-
-pub of_props-loop-prop-smaller : goal.of_props-loop-prop-smaller
-of_props-loop-prop-smaller t c = search rules
 
 pub of_props-loop-prop-preserved : goal.of_props-loop-prop-preserved
 of_props-loop-prop-preserved t c = let h : c.loop-prop.prop-index < length c.args.props.now = omega (arith, c.loop-prop-test.true) in let e = highest-drop levels.prop_levels c.args.props.now c.loop-prop.prop-index c.prop-item.result h c.prop-item.is in (all_more bodies.prop_bodies c.args.props.now c.loop-prop.prop-index c.prop-item.result c.args.depth c.loop-prop.found c.of_prop.new.found _ h c.prop-item.is c.in_ok-of_prop.ensures c.loop-prop.invariant.0, omega (arith, e, c.loop-prop.invariant.1))
@@ -594,17 +387,8 @@ of_suffix-returns-in-Call t c = let last = rw c.as_slice.ensures at c.of_argumen
 pub of_suffixes-loop-suffix-init : goal.of_suffixes-loop-suffix-init
 of_suffixes-loop-suffix-init t c = (refl, c.requires)
 
-pub of_suffixes-offset_bounds-suffixes-suffix-index : goal.of_suffixes-offset_bounds-suffixes-suffix-index
-of_suffixes-offset_bounds-suffixes-suffix-index t c = search rules
-
 pub of_suffixes-of_suffix-requires : goal.of_suffixes-of_suffix-requires
 of_suffixes-of_suffix-requires t c = let h : c.loop-suffix.suffix-index < length c.args.suffixes.now = omega (arith, c.loop-suffix-test.true) in let e = highest-drop levels.suffix_levels c.args.suffixes.now c.loop-suffix.suffix-index c.suffix-item.result h c.suffix-item.is in (search (rules, the_lemmas), omega (arith, e, c.loop-suffix.invariant.1))
-
-pub of_suffixes-returns-in_err-of_suffix : goal.of_suffixes-returns-in_err-of_suffix
-of_suffixes-returns-in_err-of_suffix t c = search rules
-
-pub of_suffixes-loop-suffix-smaller : goal.of_suffixes-loop-suffix-smaller
-of_suffixes-loop-suffix-smaller t c = search rules
 
 pub of_suffixes-loop-suffix-preserved : goal.of_suffixes-loop-suffix-preserved
 of_suffixes-loop-suffix-preserved t c = let h : c.loop-suffix.suffix-index < length c.args.suffixes.now = omega (arith, c.loop-suffix-test.true) in let e = highest-drop levels.suffix_levels c.args.suffixes.now c.loop-suffix.suffix-index c.suffix-item.result h c.suffix-item.is in (all_more bodies.suffix_bodies c.args.suffixes.now c.loop-suffix.suffix-index c.suffix-item.result c.args.depth c.loop-suffix.found c.of_suffix.new.found _ h c.suffix-item.is c.in_ok-of_suffix.ensures c.loop-suffix.invariant.0, omega (arith, e, c.loop-suffix.invariant.1))
@@ -612,14 +396,8 @@ of_suffixes-loop-suffix-preserved t c = let h : c.loop-suffix.suffix-index < len
 pub of_suffixes-returns : goal.of_suffixes-returns
 of_suffixes-returns t c = let h : length c.args.suffixes.now ≤ c.loop-suffix.suffix-index = omega (arith, c.loop-suffix-test.false) in all_done bodies.suffix_bodies c.args.suffixes.now c.loop-suffix.suffix-index c.args.depth c.loop-suffix.found _ h c.loop-suffix.invariant.0
 
-pub of_target-overflow_add-depth : goal.of_target-overflow_add-depth
-of_target-overflow_add-depth t c = omega (arith, c.requires)
-
 pub of_target-of_props-requires : goal.of_target-of_props-requires
 of_target-of_props-requires t c = let r = rw (c.in-Object.is, target_levels-Object) at c.requires in (search (rules, the_lemmas), rw c.as_slice.ensures (omega (arith, r)))
-
-pub of_target-overflow_add-depth-in-Array : goal.of_target-overflow_add-depth-in-Array
-of_target-overflow_add-depth-in-Array t c = omega (arith, c.requires)
 
 pub of_target-of_elems-requires : goal.of_target-of_elems-requires
 of_target-of_elems-requires t c = let r = rw (c.in-Array.is, target_levels-Array) at c.requires in (search (rules, the_lemmas), rw c.as_slice-in-Array.ensures (omega (arith, r)))

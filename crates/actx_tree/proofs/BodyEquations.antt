@@ -1,5 +1,5 @@
 -- Which bodies are in each kind of expression, pattern, function and class, and of their parts.
-use Rattle.std.proofs.Common.{◌≡◌, subst, ℕ, ℤ, Bool, suc, ◌+◌, ◌++◌, [], ap, List, Option, Some, None, map}
+use Rattle.std.proofs.Common.{◌≡◌, subst, ℕ, ℤ, Bool, ◌+◌, ◌++◌, [], ap, List, Option, Some, None, map}
 use Rattle.actx_text.specs.declared.units.Units.{Units}
 use Rattle.actx_tree.specs.declared.expr.Expr.{Expr, Expr-F, the_lemmas}
 use Rattle.actx_tree.specs.declared.expr.Expr.TheVariants as e

@@ -1,5 +1,5 @@
 -- What the levels of each kind of expression, pattern, function and class, and of their parts are.
-use Rattle.std.proofs.Common.{◌≡◌, subst, ℕ, ℤ, Bool, suc, max, List, Option, Some, None, map}
+use Rattle.std.proofs.Common.{◌≡◌, subst, ℤ, Bool, suc, max, List, Option, Some, None, map}
 use Rattle.actx_text.specs.declared.units.Units.{Units}
 use Rattle.actx_tree.specs.declared.expr.Expr.{Expr, the_lemmas}
 use Rattle.actx_tree.specs.declared.expr.Expr.TheVariants as e

@@ -1,5 +1,5 @@
 -- The levels, the size and the bodies of a list that is made of two.
-use Rattle.std.proofs.Common.{◌≡◌, ℕ, ◌+◌, max, List, [], ◌∷◌, ◌++◌, length, refl, sym, ap, ◌∙◌, append_assoc, arith}
+use Rattle.std.proofs.Common.{◌≡◌, ℕ, ◌+◌, max, List, [], ◌∷◌, ◌++◌, refl, sym, ap, ◌∙◌, append_assoc, arith}
 use Rattle.actx_tree.specs.Levels.{highest}
 use Rattle.actx_tree.specs.Sizes.{total}
 use Rattle.actx_tree.specs.Bodies.{Found, all}

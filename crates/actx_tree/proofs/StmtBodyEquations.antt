@@ -1,27 +1,16 @@
 -- Which bodies are in each kind of statement.
-use Rattle.std.proofs.Common.{◌≡◌, subst, ℕ, ℤ, Bool, suc, ◌+◌, ◌++◌, [], ap, List, Option, Some, None, map}
-use Rattle.actx_text.specs.declared.units.Units.{Units}
+use Rattle.std.proofs.Common.{◌≡◌, subst, ℕ, Bool, ◌+◌, ◌++◌, [], ap, List, Option, Some, None, map}
 use Rattle.actx_tree.specs.declared.expr.Expr.{Expr}
-use Rattle.actx_tree.specs.declared.expr.Piece.{Piece}
-use Rattle.actx_tree.specs.declared.expr.Argument.{Argument}
-use Rattle.actx_tree.specs.declared.expr.Entry.{Entry}
-use Rattle.actx_tree.specs.declared.expr.Key.{Key}
-use Rattle.actx_tree.specs.declared.expr.Suffix.{Suffix}
-use Rattle.actx_tree.specs.declared.expr.Operand.{Operand}
 use Rattle.actx_tree.specs.declared.function.Function.{Function}
-use Rattle.actx_tree.specs.declared.function.Method.{Method}
 use Rattle.actx_tree.specs.declared.function.Class.{Class}
-use Rattle.actx_tree.specs.declared.function.Member.{Member}
 use Rattle.actx_tree.specs.declared.pattern.Target.{Target}
-use Rattle.actx_tree.specs.declared.pattern.Prop.{Prop}
 use Rattle.actx_tree.specs.declared.pattern.Elem.{Elem}
-use Rattle.actx_tree.specs.declared.pattern.Params.{Params}
 use Rattle.actx_tree.specs.declared.stmt.Stmt.{Stmt, Stmt-F, the_lemmas}
 use Rattle.actx_tree.specs.declared.stmt.Stmt.TheVariants as s
 use Rattle.actx_tree.specs.declared.stmt.Catch.{Catch, out-Catch, roll-out-Catch}
 use Rattle.actx_tree.specs.declared.stmt.ForInit.{ForInit}
 use Rattle.actx_tree.specs.Parts.{catch_of}
-use Rattle.actx_tree.specs.Bodies.{expr_bodies, piece_bodies, argument_bodies, entry_bodies, key_bodies, suffix_bodies, operand_bodies, function_bodies, method_bodies, class_bodies, member_bodies, target_bodies, prop_bodies, elem_bodies, params_bodies, stmt_bodies, catch_bodies, for_init_bodies, stmts_bodies, all, or_none, Found, stmt_step, catch_step}
+use Rattle.actx_tree.specs.Bodies.{expr_bodies, function_bodies, class_bodies, target_bodies, elem_bodies, stmt_bodies, catch_bodies, for_init_bodies, stmts_bodies, all, or_none, Found, stmt_step, catch_step}
 
 -- ---- statements
 

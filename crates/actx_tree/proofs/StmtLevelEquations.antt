@@ -1,27 +1,16 @@
 -- What the levels of each kind of statement are.
-use Rattle.std.proofs.Common.{◌≡◌, subst, ℕ, ℤ, Bool, suc, max, List, Option, Some, None, map}
-use Rattle.actx_text.specs.declared.units.Units.{Units}
+use Rattle.std.proofs.Common.{◌≡◌, subst, Bool, suc, max, List, Option, Some, None, map}
 use Rattle.actx_tree.specs.declared.expr.Expr.{Expr}
-use Rattle.actx_tree.specs.declared.expr.Piece.{Piece}
-use Rattle.actx_tree.specs.declared.expr.Argument.{Argument}
-use Rattle.actx_tree.specs.declared.expr.Entry.{Entry}
-use Rattle.actx_tree.specs.declared.expr.Key.{Key}
-use Rattle.actx_tree.specs.declared.expr.Suffix.{Suffix}
-use Rattle.actx_tree.specs.declared.expr.Operand.{Operand}
 use Rattle.actx_tree.specs.declared.function.Function.{Function}
-use Rattle.actx_tree.specs.declared.function.Method.{Method}
 use Rattle.actx_tree.specs.declared.function.Class.{Class}
-use Rattle.actx_tree.specs.declared.function.Member.{Member}
 use Rattle.actx_tree.specs.declared.pattern.Target.{Target}
-use Rattle.actx_tree.specs.declared.pattern.Prop.{Prop}
 use Rattle.actx_tree.specs.declared.pattern.Elem.{Elem}
-use Rattle.actx_tree.specs.declared.pattern.Params.{Params}
 use Rattle.actx_tree.specs.declared.stmt.Stmt.{Stmt, the_lemmas}
 use Rattle.actx_tree.specs.declared.stmt.Stmt.TheVariants as s
 use Rattle.actx_tree.specs.declared.stmt.Catch.{Catch, out-Catch, roll-out-Catch}
 use Rattle.actx_tree.specs.declared.stmt.ForInit.{ForInit}
 use Rattle.actx_tree.specs.Parts.{catch_of}
-use Rattle.actx_tree.specs.Levels.{expr_levels, piece_levels, argument_levels, entry_levels, key_levels, suffix_levels, operand_levels, function_levels, method_levels, class_levels, member_levels, target_levels, prop_levels, elem_levels, params_levels, stmt_levels, catch_levels, for_init_levels, stmts_levels, highest, or_zero}
+use Rattle.actx_tree.specs.Levels.{expr_levels, function_levels, class_levels, target_levels, elem_levels, stmt_levels, catch_levels, for_init_levels, stmts_levels, highest, or_zero}
 
 -- ---- statements
 

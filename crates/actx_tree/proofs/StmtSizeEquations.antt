@@ -1,28 +1,17 @@
 -- What the size of each kind of statement is.
-use Rattle.std.proofs.Common.{◌≡◌, subst, ℕ, ℤ, Bool, suc, ◌+◌, List, Option, Some, None, map}
-use Rattle.actx_text.specs.declared.units.Units.{Units}
+use Rattle.std.proofs.Common.{◌≡◌, subst, Bool, suc, ◌+◌, List, Option, Some, None, map}
 use Rattle.actx_tree.specs.declared.expr.Expr.{Expr}
-use Rattle.actx_tree.specs.declared.expr.Piece.{Piece}
-use Rattle.actx_tree.specs.declared.expr.Argument.{Argument}
-use Rattle.actx_tree.specs.declared.expr.Entry.{Entry}
-use Rattle.actx_tree.specs.declared.expr.Key.{Key}
-use Rattle.actx_tree.specs.declared.expr.Suffix.{Suffix}
-use Rattle.actx_tree.specs.declared.expr.Operand.{Operand}
 use Rattle.actx_tree.specs.declared.function.Function.{Function}
-use Rattle.actx_tree.specs.declared.function.Method.{Method}
 use Rattle.actx_tree.specs.declared.function.Class.{Class}
-use Rattle.actx_tree.specs.declared.function.Member.{Member}
 use Rattle.actx_tree.specs.declared.pattern.Target.{Target}
-use Rattle.actx_tree.specs.declared.pattern.Prop.{Prop}
 use Rattle.actx_tree.specs.declared.pattern.Elem.{Elem}
-use Rattle.actx_tree.specs.declared.pattern.Params.{Params}
 use Rattle.actx_tree.specs.declared.stmt.Stmt.{Stmt, the_lemmas}
 use Rattle.actx_tree.specs.declared.stmt.Stmt.TheVariants as s
 use Rattle.actx_tree.specs.declared.stmt.Catch.{Catch, out-Catch, roll-out-Catch}
 use Rattle.actx_tree.specs.declared.stmt.ForInit.{ForInit}
 use Rattle.actx_tree.specs.Parts.{catch_of}
 use Rattle.actx_tree.specs.Levels.{or_zero}
-use Rattle.actx_tree.specs.Sizes.{expr_size, piece_size, argument_size, entry_size, key_size, suffix_size, operand_size, function_size, method_size, class_size, member_size, target_size, prop_size, elem_size, params_size, stmt_size, catch_size, for_init_size, stmts_size, total}
+use Rattle.actx_tree.specs.Sizes.{expr_size, function_size, class_size, target_size, elem_size, stmt_size, catch_size, for_init_size, stmts_size, total}
 
 -- ---- statements
 

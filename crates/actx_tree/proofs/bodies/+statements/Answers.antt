@@ -1,5 +1,5 @@
 -- The proof that the walk finds the bodies in each kind of statement.
-use Rattle.std.proofs.Common.{rules, arith, inl, inr, ◌≡◌, ◌++◌, ◌+◌, ◌<◌, ◌≤◌, map, OnOk, ℕ, List, length, refl, append_assoc, drop}
+use Rattle.std.proofs.Common.{rules, arith, inl, inr, ◌<◌, ◌≤◌, length, refl, append_assoc}
 use Rattle.std.proofs.lemmas.List.{append-nil}
 use Rattle.actx_tree.specs.Bodies as bodies
 use Rattle.actx_tree.specs.Levels as levels

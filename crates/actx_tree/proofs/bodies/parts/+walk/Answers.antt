@@ -1,10 +1,10 @@
 -- The proof that the walk finds the bodies in each kind of expression, pattern, function and class.
-use Rattle.std.proofs.Common.{rules, arith, inl, inr, ◌≡◌, ◌++◌, ◌+◌, ◌<◌, ◌≤◌, map, OnOk, ℕ, List, length, refl, append_assoc, drop}
+use Rattle.std.proofs.Common.{rules, arith, inl, inr, ◌<◌, ◌≤◌, length, refl, append_assoc}
 use Rattle.std.proofs.lemmas.List.{append-nil}
 use Rattle.actx_tree.specs.Bodies as bodies
 use Rattle.actx_tree.specs.Levels as levels
 use Rattle.actx_tree.specs.declared.expr.Expr.{the_lemmas}
-use Rattle.actx_tree.proofs.LevelEquations.{argument_levels-One, argument_levels-Spread, class_levels-fields, elem_levels-fields, entry_levels-Method, entry_levels-Pair, entry_levels-Shorthand, entry_levels-Spread, expr_levels-Array, expr_levels-Arrow, expr_levels-ArrowBlock, expr_levels-Assign, expr_levels-Brackets, expr_levels-Chain, expr_levels-Class, expr_levels-Comma, expr_levels-Conditional, expr_levels-Function, expr_levels-Left, expr_levels-New, expr_levels-Object, expr_levels-StepAfter, expr_levels-StepBefore, expr_levels-SuperCall, expr_levels-Template, expr_levels-Unary, expr_levels-Yield, function_levels-fields, key_levels-Computed, member_levels-fields, method_levels-fields, operand_levels-fields, params_levels-fields, piece_levels-fields, prop_levels-Pair, prop_levels-Shorthand, suffix_levels-Call, suffix_levels-Index, suffix_levels-Member, target_levels-Array, target_levels-Name, target_levels-Object}
+use Rattle.actx_tree.proofs.LevelEquations.{argument_levels-One, argument_levels-Spread, class_levels-fields, elem_levels-fields, entry_levels-Method, entry_levels-Pair, entry_levels-Spread, expr_levels-Array, expr_levels-Arrow, expr_levels-ArrowBlock, expr_levels-Assign, expr_levels-Brackets, expr_levels-Chain, expr_levels-Class, expr_levels-Comma, expr_levels-Conditional, expr_levels-Function, expr_levels-Left, expr_levels-New, expr_levels-Object, expr_levels-StepAfter, expr_levels-StepBefore, expr_levels-SuperCall, expr_levels-Template, expr_levels-Unary, expr_levels-Yield, function_levels-fields, key_levels-Computed, member_levels-fields, method_levels-fields, operand_levels-fields, params_levels-fields, piece_levels-fields, prop_levels-Pair, prop_levels-Shorthand, suffix_levels-Call, suffix_levels-Index, target_levels-Array, target_levels-Object}
 use Rattle.actx_tree.proofs.BodyEquations.{argument_bodies-One, argument_bodies-Spread, class_bodies-fields, elem_bodies-fields, entry_bodies-Method, entry_bodies-Pair, entry_bodies-Shorthand, entry_bodies-Spread, expr_bodies-Array, expr_bodies-Arrow, expr_bodies-ArrowBlock, expr_bodies-Assign, expr_bodies-Bool, expr_bodies-Brackets, expr_bodies-Chain, expr_bodies-Class, expr_bodies-Comma, expr_bodies-Conditional, expr_bodies-Function, expr_bodies-Left, expr_bodies-Name, expr_bodies-New, expr_bodies-Null, expr_bodies-Number, expr_bodies-Object, expr_bodies-StepAfter, expr_bodies-StepBefore, expr_bodies-SuperCall, expr_bodies-SuperMember, expr_bodies-Template, expr_bodies-Text, expr_bodies-This, expr_bodies-Unary, expr_bodies-Yield, function_bodies-fields, key_bodies-Computed, key_bodies-Number, key_bodies-Text, key_bodies-Word, member_bodies-fields, method_bodies-fields, operand_bodies-fields, params_bodies-fields, piece_bodies-fields, prop_bodies-Pair, prop_bodies-Shorthand, suffix_bodies-Call, suffix_bodies-Index, suffix_bodies-Member, target_bodies-Array, target_bodies-Name, target_bodies-Object}
 use Rattle.actx_tree.proofs.Walk.{highest-drop, all_more, all_done}
 use Rattle.actx_tree.proofs.bodies.parts.+walk.Goals as goal

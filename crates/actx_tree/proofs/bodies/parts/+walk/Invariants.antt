@@ -1,5 +1,5 @@
 -- What the loops keep: the bodies found so far and those in what is left are all of them.
-use Rattle.std.proofs.Common.{◌≡◌, ◌++◌, ◌+◌, ◌≤◌, map, ℕ, List, drop}
+use Rattle.std.proofs.Common.{◌≡◌, ◌++◌, ◌+◌, ◌≤◌, map, drop}
 use Rattle.actx_tree.specs.Bodies as bodies
 use Rattle.actx_tree.specs.Levels as levels
 use Rattle.actx_tree.proofs.bodies.parts.+walk.Given as goal

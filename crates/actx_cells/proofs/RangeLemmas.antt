@@ -1,8 +1,8 @@
 -- Ranges of a list: n elements from a place on.
-use Rattle.std.proofs.Common.{◌≡◌, ℕ, zero, suc, ◌<◌, ◌≤◌, ◌+◌, ◌-◌, List, [], ◌∷◌, ◌++◌, length, get_or, set, take, drop, slice_get, slice_set, Option, Some, None, refl, sym, ap, ◌∙◌, arith, length-append, length-drop}
+use Rattle.std.proofs.Common.{◌≡◌, ℕ, ◌<◌, ◌≤◌, ◌+◌, List, ◌++◌, length, set, take, drop, slice_get, Some, None, sym, ap, ◌∙◌, arith, length-drop}
 use Rattle.std.proofs.lemmas.List.{get_or-take, get_or-drop, length-take-le, take-append-le, drop-append-le, drop-set-lt, drop-set-add, take-set-le, take_all}
 use Rattle.std.proofs.lemmas.Option.{slice_get_past, slice_get-get_or}
-use Rattle.std.proofs.Math.Seq.{take-set-lt, drop-length, take-length}
+use Rattle.std.proofs.Math.Seq.{take-set-lt, drop-length}
 
 module _ {X : Type 0} (xs : List X) where
   -- a range that is there has its length

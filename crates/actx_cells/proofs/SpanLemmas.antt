@@ -1,8 +1,8 @@
 -- The scopes that ranges stand for, as ranges are added and cells are written.
-use Rattle.std.proofs.Common.{◌≡◌, ◌≢◌, ◌⊎◌, ℕ, zero, suc, ◌<◌, ◌≤◌, ◌+◌, ◌-◌, Bool, true, false, cond, nat_lt, List, [], ◌∷◌, ◌++◌, length, map, get_or, set, take, drop, sum_by, slice_get, slice_set, unwrap_or, Option, Some, None, option_map, option_and_then, refl, sym, subst, ap, ◌∙◌, inl, inr, arith}
-use Rattle.std.proofs.lemmas.Bool.{ltb-true, ltb-false, lt-ltb, le-ltb}
+use Rattle.std.proofs.Common.{◌≡◌, ℕ, zero, suc, ◌<◌, ◌≤◌, ◌+◌, ◌-◌, Bool, true, false, cond, nat_lt, List, [], ◌∷◌, ◌++◌, length, map, get_or, set, take, drop, slice_get, slice_set, unwrap_or, Option, Some, None, option_map, option_and_then, refl, sym, subst, ap, ◌∙◌, arith}
+use Rattle.std.proofs.lemmas.Bool.{ltb-true, ltb-false}
 use Rattle.std.proofs.lemmas.List.{set-get_or, set_past}
-use Rattle.std.proofs.lemmas.Option.{none-some, same_Some, slice_get-map, slice_get_within, get_or_from_slice_get}
+use Rattle.std.proofs.lemmas.Option.{none-some, same_Some, slice_get-map, get_or_from_slice_get}
 use Rattle.std.proofs.lemmas.List.Sums.{sum_by-cons}
 use Rattle.std.specs.Option.{option_map_or}
 use Rattle.actx_value.specs.declared.ids.ScopeId.{ScopeId}
@@ -108,6 +108,7 @@ module _ (cells : List (Option Value)) where
             let last : span.start + span.count ≤ length cells = (laid_within 0 spans (length cells) laid s.0 span e).1 in
             record { span = span; there = e; slot_within = inside; place = place; within = omega arith }
         in_span span e false less none = absurd (none-some p none)
+
         by : (o : Option Span) → slice_get spans s.0 ≡ o → StandsAt slot s p
         by None e = absurd (none-some p (sym (ap (option_and_then (place_of_slot slot)) e) ∙ h))
         by (Some span) e =
@@ -125,10 +126,10 @@ module _ (cells : List (Option Value)) where
         by : (o : Option ScopeId) → outer_of (map (λ span. span.parent) spans) hops s ≡ o → Leads s hops slot p
         by None e = absurd (none-some p (sym (ap (option_and_then (place_here spans slot)) e) ∙ h))
         by (Some outer) e = record {
-            scope = outer;
-            outer = ap (λ parents. outer_of parents hops s) (parents_in spans) ∙ e;
-            here = sym (ap (option_and_then (place_here spans slot)) e) ∙ h;
-          }
+          scope = outer;
+          outer = ap (λ parents. outer_of parents hops s) (parents_in spans) ∙ e;
+          here = sym (ap (option_and_then (place_here spans slot)) e) ∙ h;
+        }
 
 -- a place is one of the cells
 pub place_within : (cells : List (Option Value)) (spans : List Span) → AreLaid 0 spans (length cells) → (s : ScopeId) (hops slot p : ℕ) → place_in spans hops s slot ≡ Some p → p < length cells
@@ -155,15 +156,15 @@ module _ (cells : List (Option Value)) (c : Option Value) where
   scopes_set start (s ∷ ss) end h zero span e slot less =
       subst (λ x. slot < x.count → scopes_in (set cells (x.start + slot) c) (s ∷ ss) ≡ set (scopes_in cells (s ∷ ss)) zero (written x slot)) (same_Some s span e)
       (λ inside.
-        ap (λ (own : List (Option Value)). let scope : Scope = record { parent = s.parent; cells = own } in scope ∷ scopes_in (set cells (s.start + slot) c) ss) (range_set_in cells s.start s.count slot c inside)
-        ∙ ap (λ (rest : List Scope). written s slot ∷ rest) (later_same (s.start + slot) (start + s.count) ss end h.1 (omega (arith, h.0))))
+      ap (λ (own : List (Option Value)). let scope : Scope = record { parent = s.parent; cells = own } in scope ∷ scopes_in (set cells (s.start + slot) c) ss) (range_set_in cells s.start s.count slot c inside)
+      ∙ ap (λ (rest : List Scope). written s slot ∷ rest) (later_same (s.start + slot) (start + s.count) ss end h.1 (omega (arith, h.0))))
       less
   scopes_set start (s ∷ ss) end h (suc i) span e slot less =
       let after : start + s.count ≤ span.start = (laid_within (start + s.count) ss end h.1 i span e).0 in
       let place : s.start + (span.start + slot - s.start) ≡ span.start + slot = omega (arith, h.0) in
       let behind : s.count ≤ span.start + slot - s.start = omega (arith, h.0) in
       let same : take s.count (drop s.start (set cells (span.start + slot) c)) ≡ take s.count (drop s.start cells) =
-          ap (λ k. take s.count (drop s.start (set cells k c))) (sym place) ∙ range_set_behind cells s.start s.count (span.start + slot - s.start) c behind in
+      ap (λ k. take s.count (drop s.start (set cells k c))) (sym place) ∙ range_set_behind cells s.start s.count (span.start + slot - s.start) c behind in
       ap (λ (own : List (Option Value)). let scope : Scope = record { parent = s.parent; cells = own } in scope ∷ scopes_in (set cells (span.start + slot) c) ss) same
       ∙ ap (λ (rest : List Scope). scope_in cells s ∷ rest) (scopes_set (start + s.count) ss end h.1 i span e slot less)
 
@@ -192,6 +193,7 @@ cell_missed cells spans laid slot v s h = by (slice_get spans s.0) refl
   where
     writes : Scope → List Scope
     writes scope = slice_set (scopes_in cells spans) s.0 (record { parent = scope.parent; cells = slice_set scope.cells slot (Some v) })
+
     in_span : (span : Span) → slice_get spans s.0 ≡ Some span → (b : Bool) → nat_lt slot span.count ≡ b → cond b (Some (span.start + slot)) None ≡ None → slice_set (scopes_in cells spans) s.0 (record { parent = span.parent; cells = slice_set (take span.count (drop span.start cells)) slot (Some v) }) ≡ scopes_in cells spans
     in_span span e true less none = absurd (none-some (span.start + slot) (sym none))
     in_span span e false less none =
@@ -202,6 +204,7 @@ cell_missed cells spans laid slot v s h = by (slice_get spans s.0) refl
         ap (λ (cs : List (Option Value)). let scope : Scope = record { parent = span.parent; cells = cs } in set (scopes_in cells spans) s.0 scope) (set_past (take span.count (drop span.start cells)) slot (Some v) past)
         ∙ ap (λ (scope : Scope). set (scopes_in cells spans) s.0 scope) (sym own)
         ∙ set-get_or (scopes_in cells spans) s.0 (scope_in cells span)
+
     by : (o : Option Span) → slice_get spans s.0 ≡ o → with_cell (scopes_in cells spans) slot v s ≡ scopes_in cells spans
     by None e =
         let there : slice_get (scopes_in cells spans) s.0 ≡ None = slice_get-map (scope_in cells) spans s.0 ∙ ap (option_map (scope_in cells)) e in

@@ -1,5 +1,5 @@
 -- Scopes by number, as their parents and cells (Declarative Environment Records, ECMA-262 §9.1.1.1).
-use Rattle.std.specs.Prelude.{ℕ, zero, suc, List, [], ◌∷◌, ◌++◌, Option, Some, None, length, map, replicate, slice_get, slice_set, sum_by, unwrap_or, option_and_then}
+use Rattle.std.specs.Prelude.{ℕ, zero, suc, List, [], Option, Some, None, length, map, replicate, slice_get, slice_set, sum_by, unwrap_or, option_and_then}
 use Rattle.std.specs.Option.{option_map_or}
 use Rattle.actx_value.specs.declared.ids.ScopeId.{ScopeId}
 use Rattle.actx_value.specs.declared.value.Value.{Value}

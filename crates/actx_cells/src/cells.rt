@@ -129,7 +129,8 @@ impl Cells {
         let span = span_of(self.spans.as_slice(), s);
         let first = span.start as usize;
         self.spans.reserve(1)?;
-        self.cells.extend_from_within(first..first + span.count as usize)?;
+        self.cells
+            .extend_from_within(first..first + span.count as usize)?;
         self.spans.push_reserved(Span {
             parent: span.parent,
             start: copies as u32,

@@ -9,7 +9,10 @@ fn scopes_up_to_two(rt: HostRuntime) {
     let mut cells = Cells::new(rt.alloc(), 2);
     assert_eq!(rt; cells.scope(None, 1), Ok(ScopeId(0)));
     assert_eq!(rt; cells.get(ScopeId(0), 0, 0), Err(Uninitialised));
-    assert_eq!(rt; cells.set(ScopeId(0), 0, 0, Value::Null), Err(Uninitialised));
+    assert_eq!(rt;
+        cells.set(ScopeId(0), 0, 0, Value::Null),
+        Err(Uninitialised)
+    );
     cells.init(ScopeId(0), 0, Value::Num(5));
     assert_eq!(rt; cells.get(ScopeId(0), 0, 0), Ok(Value::Num(5)));
     assert_eq!(rt; cells.scope(None, 1), Err(StoreError::Full));
@@ -26,8 +29,16 @@ fn hops_and_forks(rt: HostRuntime) -> Result<(), Fail> {
     cells.init(inner, 0, Value::Num(1));
     assert_eq!(rt; cells.get(inner, 1, 1), Ok(Value::Bool(true)));
     assert_eq!(rt; cells.get(inner, 1, 0), Err(Uninitialised));
-    assert_eq!(rt; cells.get(inner, 2, 0), Err(Uninitialised), "past the outermost");
-    assert_eq!(rt; cells.get(inner, 0, 1), Err(Uninitialised), "past the last slot");
+    assert_eq!(rt;
+        cells.get(inner, 2, 0),
+        Err(Uninitialised),
+        "past the outermost"
+    );
+    assert_eq!(rt;
+        cells.get(inner, 0, 1),
+        Err(Uninitialised),
+        "past the last slot"
+    );
     assert_eq!(rt; cells.get(ScopeId(9), 0, 0), Err(Uninitialised));
 
     // A fork has cells of its own and the same parent.

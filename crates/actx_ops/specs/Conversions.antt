@@ -1,5 +1,5 @@
 -- Conversions of values, where `texts` are the texts by number.
-use Rattle.std.specs.Prelude.{◌≡◌, ◌++◌, ℕ, Bool, true, false, cond, ℤ, pos, List, [], ◌∷◌, length, nat_lt, Option, Some, None, codes, if◌then◌else◌}
+use Rattle.std.specs.Prelude.{◌≡◌, ◌++◌, ℕ, Bool, true, false, ℤ, pos, List, length, nat_lt, Option, Some, None, codes, if◌then◌else◌}
 use Rattle.std.specs.Fmt.{signed_decimal}
 use Rattle.actx_value.specs.Texts.{text_at}
 use Rattle.actx_value.specs.declared.ids.TextId.{TextId}
@@ -7,8 +7,7 @@ use Rattle.actx_value.specs.declared.value.Value.{Value}
 use Rattle.actx_value.specs.declared.value.Value.TheVariants.{Undefined, Null, Bool as Truth, Num, Text, Object, Scope, Mark}
 use Rattle.actx_value.specs.declared.value.Key.{Key}
 use Rattle.actx_value.specs.declared.value.Key.TheVariants.{Index, Name}
-use Rattle.actx_value.specs.declared.end.Reason.{Reason}
-use Rattle.actx_value.specs.declared.end.Reason.TheVariants.{Number, Conversion}
+use Rattle.actx_value.specs.declared.end.Reason.TheVariants.{Conversion}
 use Rattle.actx_ops.specs.declared.out.OpOut.{OpOut}
 use Rattle.actx_ops.specs.declared.out.OpOut.TheVariants.{Value as Gives, NewText, OutOfProfile}
 use Rattle.actx_ops.specs.Texts.{number_in, index_in, index_of}

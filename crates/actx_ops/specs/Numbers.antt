@@ -1,6 +1,6 @@
 -- Arithmetic on safe integers (ECMA-262 §6.1.6.1). There is no answer where ECMA-262 gives another
 -- number: a fraction, not a number, infinite, −0, or an integer that is not safe.
-use Rattle.std.specs.Prelude.{◌≡◌, ℕ, suc, zero, Bool, true, false, not, ◌&&◌, ◌||◌, nat_le, nat_lt, ℤ, pos, negsuc, ◌+ℤ◌, ◌-ℤ◌, ◌*ℤ◌, neg_ℤ, int_div, int_rem, Option, Some, None, if◌then◌else◌}
+use Rattle.std.specs.Prelude.{ℕ, suc, zero, Bool, true, false, not, ◌&&◌, ◌||◌, nat_le, nat_lt, ℤ, pos, negsuc, ◌+ℤ◌, ◌-ℤ◌, ◌*ℤ◌, neg_ℤ, int_div, int_rem, Option, Some, None, if◌then◌else◌}
 
 -- Number.MAX_SAFE_INTEGER (§21.1.2.6)
 abbrev pub greatest_safe : ℕ

@@ -8,10 +8,9 @@ use Rattle.actx_value.specs.declared.value.Value.{Value}
 use Rattle.actx_value.specs.declared.value.Value.TheVariants.{Undefined, Null, Bool as Truth, Num, Text, Object, Scope, Mark}
 use Rattle.actx_value.specs.declared.operator.Op.{Op}
 use Rattle.actx_value.specs.declared.operator.Op.TheVariants.{Negate, ToNumber, Add, Subtract, Multiply, Divide, Remainder, Less, Greater, LessOrEqual, GreaterOrEqual, Equal, NotEqual, StrictlyEqual, StrictlyNotEqual}
-use Rattle.actx_value.specs.declared.end.Reason.{Reason}
 use Rattle.actx_value.specs.declared.end.Reason.TheVariants.{Number, Conversion}
 use Rattle.actx_ops.specs.declared.out.OpOut.{OpOut}
-use Rattle.actx_ops.specs.declared.out.OpOut.TheVariants.{Value as Gives, NewText, OutOfProfile}
+use Rattle.actx_ops.specs.declared.out.OpOut.TheVariants.{Value as Gives, OutOfProfile}
 use Rattle.actx_ops.specs.Numbers.{safe, sum_of, difference_of, product_of, quotient_of, remainder_of, negation_of}
 use Rattle.actx_ops.specs.Conversions.{number_of_value, text_of_value, new_text}
 

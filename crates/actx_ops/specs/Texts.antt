@@ -1,6 +1,6 @@
 -- Numbers that texts spell in decimal. A text does so where it is `0`, or an optional `-` and digits
 -- without a leading 0: the texts that Number::toString (ECMA-262 §6.1.6.1.20) gives for safe integers.
-use Rattle.std.specs.Prelude.{◌≡◌, ℕ, suc, zero, ◌&&◌, ◌==◌, nat_le, ℤ, pos, negsuc, List, [], ◌∷◌, Option, Some, None, if◌then◌else◌, option_and_then}
+use Rattle.std.specs.Prelude.{ℕ, suc, zero, ◌&&◌, ◌==◌, nat_le, ℤ, pos, negsuc, List, [], ◌∷◌, Option, Some, None, if◌then◌else◌, option_and_then}
 use Rattle.std.specs.Fmt.{decimal}
 use Rattle.std.specs.Option.{option_map}
 use Rattle.std.specs.Str.Parse.{digits_value}

@@ -1,8 +1,8 @@
-use Rattle.std.proofs.Common.{◌≡◌, ◌≢◌, ◌<◌, ◌≤◌, ◌+◌, ◌*◌, ◌∙◌, ℕ, List, [], length, get_or, take, drop, refl, sym, subst, ap, arith}
+use Rattle.std.proofs.Common.{◌≡◌, ◌≢◌, ◌<◌, ◌≤◌, ◌+◌, ◌*◌, ◌∙◌, ℕ, List, length, get_or, drop, sym, subst, ap, arith}
 use Rattle.std.proofs.lemmas.Bool.{eqb-true, eq-eqb, true≢false}
 use Rattle.std.proofs.lemmas.List.{take_all, drop_all}
 use Rattle.std.specs.Str.Parse.{AllDigits, digits_value, digits_value_after}
-use Rattle.actx_ops.proofs.DecimalLemmas.{IsTextOf, natural_some, natural_none, not_empty, no_leading_zero, digits_alone, text_of_value, value_step, digits_step, too_great}
+use Rattle.actx_ops.proofs.DecimalLemmas.{natural_some, natural_none, not_empty, no_leading_zero, digits_alone, text_of_value, value_step, digits_step, too_great}
 use Rattle.actx_ops.proofs.decimal.natural_in.Goals as goal
 use Rattle.actx_ops.proofs.decimal.natural_in.Goals.{else-digits-eq-ZERO-via-then-digits-eq-ZERO+else-digits-gt1, else-digits-eq-ZERO-via-else-digits-eq-ZERO, then-digit-lt-ZERO-via-then-digit-lt-ZERO, then-digit-lt-ZERO-via-else-digit-lt-ZERO+then-digit-gt-NINE}
 

@@ -2,7 +2,7 @@ use Rattle.std.proofs.Common.{◌≡◌, ◌<◌, ◌∙◌, ℕ, List, Option, 
 use Rattle.std.proofs.lemmas.Option.{slice_get_read}
 use Rattle.actx_value.specs.declared.value.Value.{Value}
 use Rattle.actx_cells.specs.declared.span.Span.{Span}
-use Rattle.actx_cells.specs.Scopes.{held, value_at}
+use Rattle.actx_cells.specs.Scopes.{held}
 use Rattle.actx_cells.specs.Spans.{place_in}
 use Rattle.actx_cells.proofs.SpanLemmas.{cell_at, value_is, place_within}
 use Rattle.actx_cells.proofs.cells.Cells.get.Goals as goal

@@ -1,4 +1,4 @@
-use Rattle.std.proofs.Common.{◌≡◌, ◌<◌, ◌∙◌, ℕ, List, Option, Some, None, length, refl, sym, ap, arith}
+use Rattle.std.proofs.Common.{◌≡◌, ◌<◌, List, Option, Some, None, length, sym, ap, arith}
 use Rattle.actx_value.specs.declared.value.Value.{Value}
 use Rattle.actx_cells.specs.declared.span.Span.{Span}
 use Rattle.actx_cells.specs.Scopes.{Scope, ScopeStore}

@@ -1,8 +1,8 @@
-use Rattle.std.proofs.Common.{◌≡◌, ◌≤◌, ◌+◌, ◌∷◌, ◌++◌, ◌∙◌, ℕ, suc, List, [], Option, None, length, take, drop, vec_len, refl, sym, ap, arith}
+use Rattle.std.proofs.Common.{◌≡◌, ◌≤◌, ◌+◌, ◌∷◌, ◌++◌, ◌∙◌, ℕ, suc, List, [], Option, length, take, drop, sym, ap, arith}
 use Rattle.actx_value.specs.declared.value.Value.{Value}
 use Rattle.actx_cells.specs.declared.span.Span.{Span}
 use Rattle.actx_cells.specs.Scopes.{Scope, ScopeStore, count_of, fork_of}
-use Rattle.actx_cells.specs.Spans.{scope_in, scopes_in, span_of}
+use Rattle.actx_cells.specs.Spans.{scopes_in, span_of}
 use Rattle.actx_cells.proofs.RangeLemmas.{length-range}
 use Rattle.actx_cells.proofs.SpanLemmas.{fork_is, span_within}
 use Rattle.actx_cells.proofs.PushLemmas.{IsPushed, pushed, range_is}

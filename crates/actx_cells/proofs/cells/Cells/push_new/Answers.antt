@@ -1,4 +1,4 @@
-use Rattle.std.proofs.Common.{◌≡◌, ◌≤◌, ◌+◌, ◌∷◌, ◌++◌, ◌∙◌, suc, List, Option, None, length, vec_len, replicate, refl, sym, ap, arith}
+use Rattle.std.proofs.Common.{◌≡◌, ◌≤◌, ◌+◌, ◌++◌, ◌∙◌, suc, List, Option, None, length, vec_len, replicate, ap, arith}
 use Rattle.std.proofs.lemmas.List.{length-replicate}
 use Rattle.actx_value.specs.declared.value.Value.{Value}
 use Rattle.actx_cells.specs.declared.span.Span.{Span}

@@ -2,8 +2,8 @@ use Rattle.std.proofs.Common.{◌≡◌, ◌<◌, ◌∙◌, ℕ, List, Option, 
 use Rattle.std.proofs.lemmas.Option.{slice_get_read, none-some}
 use Rattle.actx_value.specs.declared.value.Value.{Value}
 use Rattle.actx_cells.specs.declared.span.Span.{Span}
-use Rattle.actx_cells.specs.Scopes.{Scope, ScopeStore, held, value_at}
-use Rattle.actx_cells.specs.Spans.{scopes_in, place_in}
+use Rattle.actx_cells.specs.Scopes.{Scope, ScopeStore, held}
+use Rattle.actx_cells.specs.Spans.{place_in}
 use Rattle.actx_cells.proofs.SpanLemmas.{cell_at, value_is, value_set, place_within}
 use Rattle.actx_cells.proofs.cells.Cells.set.Goals as goal
 

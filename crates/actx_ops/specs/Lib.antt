@@ -1,0 +1,5 @@
+pub mod Numbers
+pub mod Texts
+pub mod Conversions
+pub mod Operators
+pub mod Laws

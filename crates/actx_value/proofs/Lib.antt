@@ -1,0 +1,4 @@
+mod Positions
+mod IndexLemmas
+mod AddLemmas
+mod NumberLemmas

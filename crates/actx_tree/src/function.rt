@@ -25,6 +25,14 @@ pub struct Unread {
     pub to: usize,
 }
 
+/// The body of a function in a tree, and the number of nodes around its statements: the functions,
+/// statements, patterns and expressions that it lies in, its own function among them.
+#[derive(Clone, Copy, Debug, PartialEq, Eq)]
+pub struct Nested {
+    pub range: Unread,
+    pub depth: usize,
+}
+
 /// A function, declared or as an expression (ECMA-262 §15.2, §15.5, §15.8).
 #[cycle(tree)]
 #[derive(Drop)]

@@ -13,7 +13,7 @@ mod stmt;
 mod tree;
 
 pub use expr::{Argument, Entry, Expr, Key, Operand, Piece, Suffix};
-pub use function::{Class, Flow, Function, Member, Method, Unread};
+pub use function::{Class, Flow, Function, Member, Method, Nested, Unread};
 pub use operator::{AssignOp, BinaryOp, StepOp, UnaryOp};
 pub use pattern::{Elem, Params, Prop, Target};
 pub use stmt::{Catch, ForInit, Stmt};

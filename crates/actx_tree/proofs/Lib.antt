@@ -1,0 +1,4 @@
+pub mod LevelEquations
+pub mod SizeEquations
+pub mod StmtLevelEquations
+pub mod StmtSizeEquations

@@ -7,6 +7,8 @@ pub enum Line {
     Expr,
     /// Assign
     Assign,
+    /// Unary
+    Unary,
     /// Unary (0), Prod (1), Sum (2), Rel (3), Eq (4), And (5), Or (6)
     Level(usize),
     /// Left

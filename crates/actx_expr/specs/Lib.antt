@@ -1,0 +1,5 @@
+pub mod Words
+pub mod Kinds
+pub mod Tokens
+pub mod Places
+pub mod Grammar

@@ -3,3 +3,6 @@ pub mod Kinds
 pub mod Tokens
 pub mod Places
 pub mod Grammar
+pub mod Reader
+pub mod Patterns
+pub mod Lines

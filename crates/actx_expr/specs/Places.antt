@@ -1,5 +1,5 @@
 -- What may be assigned to (ECMA-262 §13.15.1, AssignmentTargetType simple).
-use Rattle.std.specs.Prelude.{ℕ, Bool, true, false, not, ◌&&◌, List, [], ◌∷◌}
+use Rattle.std.specs.Prelude.{ℕ, Bool, true, false, not, ◌&&◌, nat_lt, List, [], ◌∷◌}
 use Rattle.actx_tree.specs.declared.expr.Expr.{Expr, Expr-F, out-Expr}
 use Rattle.actx_tree.specs.declared.expr.Argument.{Argument}
 use Rattle.actx_tree.specs.declared.expr.Entry.{Entry}
@@ -7,7 +7,7 @@ use Rattle.actx_tree.specs.declared.expr.Key.{Key, Key-F, out-Key}
 use Rattle.actx_tree.specs.declared.expr.Suffix.{Suffix, Suffix-F, out-Suffix}
 use Rattle.actx_tree.specs.declared.pattern.Prop.{Prop}
 use Rattle.actx_tree.specs.declared.pattern.Target.{Target}
-use Rattle.actx_tree.specs.declared.expr.Operand.{Operand}
+use Rattle.actx_tree.specs.declared.expr.Operand.{Operand, out-Operand}
 use Rattle.actx_tree.specs.declared.expr.Piece.{Piece}
 use Rattle.actx_tree.specs.declared.function.Class.{Class}
 use Rattle.actx_tree.specs.declared.function.Function.{Function}
@@ -15,6 +15,7 @@ use Rattle.actx_tree.specs.declared.function.Member.{Member}
 use Rattle.actx_tree.specs.declared.function.Method.{Method, out-Method}
 use Rattle.actx_tree.specs.declared.pattern.Elem.{Elem}
 use Rattle.actx_tree.specs.declared.pattern.Params.{Params}
+use Rattle.actx_expr.specs.Kinds.{level_of}
 
 abbrev ExprNode : Type 0
 ExprNode = Expr-F Argument Entry Expr Key Suffix Prop Target Operand Piece Class Function Member Method Elem Params
@@ -69,6 +70,16 @@ is_place_at _ = false
 -- a name, or a Left without `?.` and not of `super` whose last suffix is a member
 abbrev pub is_place : Expr → Bool
 is_place x = is_place_at (out-Expr x)
+
+-- ---- chains
+
+abbrev pub is_logical_at : ExprNode → Bool
+is_logical_at (Expr-F.Chain x (o ∷ os)) = nat_lt 4 (level_of (out-Operand o).op)
+is_logical_at _ = false
+
+-- a chain of `||` or `&&`, not in brackets
+abbrev pub is_logical : Expr → Bool
+is_logical x = is_logical_at (out-Expr x)
 
 -- ---- keys
 

@@ -272,7 +272,7 @@ mutual
   pub data SpMade : Expr → ℕ → Tokens → Tokens → Type 0 where
     made-primary : {x : Expr} {h : ℕ} {a b : Tokens} → SpPrimary x h a b → SpMade x h a b
     made-new : {t : Token} {x : Expr} {xs : List Suffix} {zs : List Argument} {h i j : ℕ} {a m n b : Tokens} → Is (kind.Word word.New) t
-        → SpMade x h a m → SpMemberSuffixes xs i m n → SpArgs zs j n b → SpMade (e.New x xs (Some zs)) (suc (max h (max i j))) (t ∷ a) b
+        → SpMade x h a m → SpMemberSuffixes xs i m n → SpArgs zs j n b → SpMade (e.New x xs (Some zs)) (suc (max (max h i) j)) (t ∷ a) b
     made-new_bare : {t : Token} {x : Expr} {xs : List Suffix} {h i : ℕ} {a m b : Tokens} → Is (kind.Word word.New) t → SpMade x h a m
         → SpMemberSuffixes xs i m b → begins_suffix (next b) ≡ false → SpMade (e.New x xs None) (suc (max h i)) (t ∷ a) b
 

@@ -1,0 +1,4 @@
+pub mod Past
+pub mod PastLines
+pub mod Following
+pub mod Firsts

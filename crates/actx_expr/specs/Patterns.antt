@@ -26,7 +26,7 @@ use Rattle.actx_expr.specs.declared.bracket.Bracket.TheVariants as bracket
 use Rattle.actx_expr.specs.Kinds.{closes, is_dots, is_name, is_equals, is_colon, is_open_parenthesis, is_open_bracket, is_open_brace, is_class_word, is_extends_word, is_semicolon}
 use Rattle.actx_expr.specs.Tokens.{Tokens, next, behind, is_static}
 use Rattle.actx_expr.specs.Places.{is_plain_key}
-use Rattle.actx_expr.specs.Reader.{Parser, Outcome, Read, Inner, and_then, ◌>>=◌, ◌>>◌, pure, refuse, skip, count, expect, name, literal, optional_name, rest_name, unread, function_head, method_head, row_from}
+use Rattle.actx_expr.specs.Reader.{Parser, Outcome, Read, Inner, and_then, ◌>>=◌, ◌>>◌, pure, refuse, skip, count, expect, name, literal, optional_name, rest_name, unread, function_head, method_head, row_from, fits}
 
 -- what ends the members of a pattern or of parameters
 abbrev pub ends_elems : Bracket → Kind → Bool
@@ -130,11 +130,12 @@ module _ (inner : Inner) where
   unfoldable pub key : Parser (Read Key)
   key = λ i. if is_open_bracket (next i) then computed_key i else (literal >>= (λ w. pure (w, 0))) i
 
-  -- what stands behind the key of a method
+  -- What stands behind the key of a method. The method is a node itself, so it is looked at whether it fits.
   unfoldable pub method_tail : Flow → Read Key → Parser (Read Method)
   method_tail f w = do
     ps ← params
     r ← unread
+    fits inner (suc (max w.1 ps.1))
     pure (method_of f w.0 ps.0 r, suc (max w.1 ps.1))
 
   -- ---- classes

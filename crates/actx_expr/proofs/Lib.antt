@@ -6,3 +6,4 @@ pub mod Gets
 pub mod Parts
 pub mod Completes
 pub mod GetPatterns
+pub mod GetLefts

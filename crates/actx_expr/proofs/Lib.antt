@@ -7,3 +7,5 @@ pub mod Parts
 pub mod Completes
 pub mod GetPatterns
 pub mod GetLefts
+pub mod GetExprs
+pub mod Complete

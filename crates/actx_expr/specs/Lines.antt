@@ -179,7 +179,7 @@ module _ (inner : Inner) where
   pieces_from (suc n) found h = do
     x ← inner.read line.Expr
     u ← piece false
-    if u.1 then pure (found ++ piece_of x.0 u.0 ∷ [], max h x.1) else pieces_from n (found ++ piece_of x.0 u.0 ∷ []) (max h x.1)
+    (λ i. if u.1 then Ok ((found ++ piece_of x.0 u.0 ∷ [], max h x.1), i) else pieces_from n (found ++ piece_of x.0 u.0 ∷ []) (max h x.1) i)
 
   unfoldable pub pieces : Parser (Read (List Piece))
   pieces = λ i. pieces_from (count i) [] 0 i
@@ -187,9 +187,9 @@ module _ (inner : Inner) where
   unfoldable pub template : Parser (Read Expr)
   template = do
     u ← piece true
-    if u.1 then pure (e.Template u.0 [], 1) else (do
+    (λ i. if u.1 then Ok ((e.Template u.0 [], 1), i) else (do
       xs ← pieces
-      pure (e.Template u.0 xs.0, suc xs.1))
+      pure (e.Template u.0 xs.0, suc xs.1)) i)
 
   unfoldable pub brackets : Parser (Read Expr)
   brackets = do
@@ -287,10 +287,10 @@ module _ (inner : Inner) where
 
   abbrev pub step_after : Option StepOp → Read Expr → Parser (Read Expr)
   step_after None x = pure x
-  step_after (Some op) x = if is_place x.0 then (do
+  step_after (Some op) x = λ i. if is_place x.0 then (do
     fits inner x.1
     skip
-    pure (e.StepAfter x.0 op, suc x.1)) else refuse
+    pure (e.StepAfter x.0 op, suc x.1)) i else Err NoTree
 
   unfoldable pub unary_after : Read Expr → Parser (Read Expr)
   unary_after x = λ i. step_after (step_at i) x i
@@ -300,7 +300,7 @@ module _ (inner : Inner) where
   step_before (Some op) = do
     skip
     x ← inner.read line.Left
-    if is_place x.0 then pure (e.StepBefore op x.0, suc x.1) else refuse
+    (λ i. if is_place x.0 then Ok ((e.StepBefore op x.0, suc x.1), i) else Err NoTree)
 
   abbrev pub unary_from : Option UnaryOp → Option StepOp → Parser (Read Expr)
   unary_from None step = step_before step
@@ -384,11 +384,11 @@ module _ (inner : Inner) where
 
   abbrev pub assign_to : Option AssignOp → Read Expr → Parser (Read Expr)
   assign_to None x = pure x
-  assign_to (Some op) x = if is_place x.0 then (do
+  assign_to (Some op) x = λ i. if is_place x.0 then (do
     fits inner x.1
     skip
     y ← inner.read line.Assign
-    pure (e.Assign x.0 op y.0, suc (max x.1 y.1))) else refuse
+    pure (e.Assign x.0 op y.0, suc (max x.1 y.1))) i else Err NoTree
 
   unfoldable pub assign_after : Read Expr → Parser (Read Expr)
   assign_after x = λ i. assign_to (assign_op (next i)) x i
@@ -434,4 +434,4 @@ sunk = λ i. Err TooNested
 -- the readers of what has no more levels than the number
 unfoldable pub below : ℕ → Inner
 below zero = record { room = 0; read = λ l. sunk; target = target_by sunk }
-below (suc room) = record { room = suc room; read = line_of (below room); target = target_by (pattern (below room)) }
+below (suc room) = record { room = suc (below room).room; read = line_of (below room); target = target_by (pattern (below room)) }

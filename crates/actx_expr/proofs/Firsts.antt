@@ -37,11 +37,11 @@ async_name : (sort : TokenKind) → is_async_word sort ≡ true → kind_of sort
 async_name (k.Name u) e = refl
 async_name _ e = Prim.absurd (cc)
 
-both_first : (a b : Bool) → (a && b) ≡ true → a ≡ true
+pub both_first : (a b : Bool) → (a && b) ≡ true → a ≡ true
 both_first true b e = refl
 both_first false b e = Prim.absurd (cc)
 
-both_second : (a b : Bool) → (a && b) ≡ true → b ≡ true
+pub both_second : (a b : Bool) → (a && b) ≡ true → b ≡ true
 both_second true b e = e
 both_second false b e = Prim.absurd (cc)
 

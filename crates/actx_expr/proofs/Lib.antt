@@ -9,3 +9,6 @@ pub mod GetPatterns
 pub mod GetLefts
 pub mod GetExprs
 pub mod Complete
+pub mod Holds
+pub mod Tests
+pub mod SoundParts

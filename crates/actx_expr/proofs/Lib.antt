@@ -12,3 +12,5 @@ pub mod Complete
 pub mod Holds
 pub mod Tests
 pub mod SoundParts
+pub mod Sounds
+pub mod SoundPatterns

@@ -15,7 +15,7 @@ use Rattle.actx_expr.specs.declared.kind.Kind.TheVariants as kind
 use Rattle.actx_expr.specs.declared.bracket.Bracket.{Bracket}
 use Rattle.actx_expr.specs.declared.bracket.Bracket.TheVariants as bracket
 use Rattle.actx_expr.specs.Kinds.{kind_of, closes, closing, is_dots, is_name, is_star, is_open_brace, is_function_word}
-use Rattle.actx_expr.specs.Tokens.{Tokens, Is, next, behind, is_async, is_on_line, after_brackets, is_async_function, method_flow}
+use Rattle.actx_expr.specs.Tokens.{Tokens, Is, next, behind, is_async, is_async_word, is_on_line, after_brackets, is_async_function, method_flow}
 use Rattle.actx_expr.specs.Reader as r
 use Rattle.actx_expr.specs.Grammar.{SpWord, word-name, word-reserved, SpName, name-some, name-none, SpLiteral, literal-word, literal-text, literal-number, SpRestName, rest_name-none, rest_name-some, SpUnread, unread, SpFunctionHead, head-plain, head-generator, head-async, SpMethodHead, method_head-plain, method_head-generator, method_head-async}
 use Rattle.actx_expr.proofs.Tests as is
@@ -133,7 +133,7 @@ generator_head (taken {t = t} e) (taken {t = u} f) = head-generator (is.function
 async_head : (a : Tokens) → is_async_function a ≡ true → SpFunctionHead flow.Async a (behind (behind a))
 unfolding behind next is_async_function is_async is_on_line
 async_head [] e = Prim.absurd (cc)
-async_head (t ∷ []) e = let z : false ≡ true = both_second _ _ (both_first _ _ e) in Prim.absurd (cc)
+async_head (t ∷ []) e = let z : false ≡ true = both_second (is_async_word t.kind) false (both_first (is_async_word t.kind && false) (is_function_word (next [])) e) in Prim.absurd (cc)
 async_head (t ∷ u ∷ b) e = head-async e
 
 pub sound-function_head : (a : Tokens) → Holds (λ f b. SpFunctionHead f a b) (r.function_head a)

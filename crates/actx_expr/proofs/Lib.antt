@@ -14,3 +14,4 @@ pub mod Tests
 pub mod SoundParts
 pub mod Sounds
 pub mod SoundPatterns
+pub mod SoundLefts

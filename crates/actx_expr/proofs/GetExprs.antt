@@ -87,7 +87,7 @@ unary_not_logical (unary-before e d q) = simp the_lemmas
 unary_not_logical (unary-after d q e f) = simp the_lemmas
 unary_not_logical (unary-left d) = left_not_logical d
 
-chain_logical : (x y : Expr) (op : BinaryOp) (ys : List Operand) → is_logical (e.Chain x (operand_of op y ∷ ys)) ≡ nat_lt 4 (level_of op)
+pub chain_logical : (x y : Expr) (op : BinaryOp) (ys : List Operand) → is_logical (e.Chain x (operand_of op y ∷ ys)) ≡ nat_lt 4 (level_of op)
 chain_logical x y op ys = simp the_lemmas
 
 pub not_logical : {l : ℕ} {x : Expr} {h : ℕ} {a b : Tokens} → SpLevel l x h a b → l ≤ 4 → is_logical x ≡ false

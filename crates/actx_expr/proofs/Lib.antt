@@ -15,3 +15,4 @@ pub mod SoundParts
 pub mod Sounds
 pub mod SoundPatterns
 pub mod SoundLefts
+pub mod SoundExprs

@@ -1,0 +1,17 @@
+pub mod Basics
+pub mod GapItems
+pub mod Gaps
+pub mod Words
+pub mod Digits
+pub mod Numbers
+pub mod Escapes
+pub mod Parts
+pub mod Quotes
+pub mod ReservedWords
+pub mod Signs
+pub mod Firsts
+pub mod Classes
+pub mod OneKind
+pub mod Runs
+pub mod OneList
+pub mod InOrder

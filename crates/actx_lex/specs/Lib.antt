@@ -1,0 +1,13 @@
+pub mod Units
+pub mod Gaps
+pub mod Words
+pub mod Numbers
+pub mod Escapes
+pub mod Parts
+pub mod Texts
+pub mod Templates
+pub mod Signs
+pub mod TokenAt
+pub mod TokenLists
+pub mod Readers
+pub mod Scans

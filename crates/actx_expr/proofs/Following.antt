@@ -10,8 +10,8 @@ use Rattle.actx_tree.specs.declared.operator.AssignOp.{AssignOp}
 use Rattle.actx_expr.specs.declared.kind.Kind.{Kind}
 use Rattle.actx_expr.specs.declared.kind.Kind.TheVariants as kind
 use Rattle.actx_expr.specs.declared.word.Word.TheVariants as word
-use Rattle.actx_expr.specs.Kinds.{kind_of, begins_suffix, binary_op, level_of, step_op, assign_op, is_question, is_comma, goes_on_line, ends_always}
-use Rattle.actx_expr.specs.Tokens.{Tokens, Is, next, behind, is_on_line, ends_expression, ends_assign}
+use Rattle.actx_expr.specs.Kinds.{kind_of, begins_suffix, binary_op, level_of, step_op, assign_op, is_question, is_comma, is_open_brace, goes_on_line, ends_always}
+use Rattle.actx_expr.specs.Tokens.{Tokens, Is, next, behind, is_on_line, ends_expression, ends_assign, ends_left}
 use Rattle.actx_expr.specs.Lines.{of_level, operator_at, step_at, goes_on_suffix, goes_on_comma}
 
 abbrev pub by_operator : Option BinaryOp → ℕ → ℕ
@@ -249,3 +249,11 @@ assign_end b false q e = let f = after_end b e in omega arith
 pub after_assign_end : (b : Tokens) → ends_assign b ≡ true → 11 < after b
 unfolding ends_assign
 after_assign_end b e = assign_end b (is_comma (next b)) refl e
+
+left_level : (sort : Kind) (line : Bool) → is_open_brace sort ≡ true → following sort line ≡ 13
+left_level (kind.Sign p.OpenBrace) line e = refl
+left_level _ line e = Prim.absurd (cc)
+
+pub after_left : (b : Tokens) → ends_left b ≡ true → 1 < after b
+unfolding after ends_left
+after_left b e = rw (left_level (next b) (is_on_line b) e) (omega arith)

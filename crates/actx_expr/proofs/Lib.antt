@@ -16,3 +16,5 @@ pub mod Sounds
 pub mod SoundPatterns
 pub mod SoundLefts
 pub mod SoundExprs
+pub mod Answering
+pub mod TopLaws

@@ -88,8 +88,10 @@ to_equality (level-unary d) g q = Prim.absurd (omega arith)
 to_equality (level-one {l = n} {x = x} {h = h} {a = a} {b = b} d) g q =
     elim (cases_lt n 4) [ inl lt ↦ subst (λ l. SpLevel l x h a b) (let z : suc n ≡ 4 = omega arith in z) (level-one d) | inr ge ↦ to_equality d ge q ]
 to_equality (level-chain {l = n} {x = x} {h = h} {a = a} {b = b} d (operands-more {op = op} {x = y} {xs = ys} {h = i} {i = j} g' le c r)) g q =
-    elim (cases_lt n 4) [ inl lt ↦ subst (λ l. SpLevel l (e.Chain x (operand_of op y ∷ ys)) (suc (max h (max i j))) a b) (let z : suc n ≡ 4 = omega arith in z) (level-chain d (operands-more g' le c r))
-    | inr ge ↦ Prim.absurd (still_logical n x y op ys le ge q) ]
+    elim (cases_lt n 4) [
+      | inl lt ↦ subst (λ l. SpLevel l (e.Chain x (operand_of op y ∷ ys)) (suc (max h (max i j))) a b) (let z : suc n ≡ 4 = omega arith in z) (level-chain d (operands-more g' le c r))
+      | inr ge ↦ Prim.absurd (still_logical n x y op ys le ge q)
+    ]
 
 -- ---- operators with their operands
 

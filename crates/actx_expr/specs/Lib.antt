@@ -6,3 +6,5 @@ pub mod Grammar
 pub mod Reader
 pub mod Patterns
 pub mod Lines
+pub mod Given
+pub mod Laws

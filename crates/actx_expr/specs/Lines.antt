@@ -80,8 +80,8 @@ module _ (inner : Inner) where
     skip
     x ← inner.read line.Assign
     pure (an_argument.Spread x.0, x.1)) i else (do
-    x ← inner.read line.Assign
-    pure (an_argument.One x.0, x.1)) i
+      x ← inner.read line.Assign
+      pure (an_argument.One x.0, x.1)) i
 
   unfoldable pub arguments : Bracket → Parser (Read (List Argument))
   arguments c = λ i. row_from c (closes c) argument (count i) [] 0 i
@@ -98,8 +98,8 @@ module _ (inner : Inner) where
     skip
     x ← inner.read line.Assign
     pure (an_entry.Pair w.0 x.0, max w.1 x.1)) i else (do
-    m ← method_tail inner f w
-    pure (an_entry.Method m.0, m.1)) i
+      m ← method_tail inner f w
+      pure (an_entry.Method m.0, m.1)) i
 
   unfoldable pub keyed : Parser (Read Entry)
   keyed = do
@@ -115,7 +115,7 @@ module _ (inner : Inner) where
 
   unfoldable pub entry : Parser (Read Entry)
   entry = λ i. if is_dots (next i) then spread_entry i else
-    (if is_shorthand i then (name >>= (λ n. pure (an_entry.Shorthand n, 0))) i else keyed i)
+      (if is_shorthand i then (name >>= (λ n. pure (an_entry.Shorthand n, 0))) i else keyed i)
 
   unfoldable pub entries : Parser (Read (List Entry))
   entries = λ i. row_from bracket.Curly (closes bracket.Curly) entry (count i) [] 0 i
@@ -262,7 +262,7 @@ module _ (inner : Inner) where
   new_after x xs = λ i. if is_open_parenthesis (next i) then (do
     zs ← args
     pure (e.New x xs.0 (Some zs.0), suc (max xs.1 zs.1))) i else
-    (if begins_suffix (next i) then Err NoTree else Ok ((e.New x xs.0 None, suc xs.1), i))
+      (if begins_suffix (next i) then Err NoTree else Ok ((e.New x xs.0 None, suc xs.1), i))
 
   unfoldable pub new_form : Parser (Read Expr)
   new_form = do
@@ -364,8 +364,8 @@ module _ (inner : Inner) where
   arrow_body async ps = λ i. if is_open_brace (next i) then (do
     r ← unread
     pure (e.ArrowBlock async ps.0 r, suc ps.1)) i else (do
-    y ← inner.read line.Assign
-    pure (e.Arrow async ps.0 y.0, suc (max ps.1 y.1))) i
+      y ← inner.read line.Assign
+      pure (e.Arrow async ps.0 y.0, suc (max ps.1 y.1))) i
 
   unfoldable pub arrow_tail : Bool → Parser (Read Expr)
   arrow_tail async = do

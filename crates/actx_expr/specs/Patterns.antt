@@ -73,9 +73,9 @@ module _ (inner : Inner) where
     skip
     x ← elem
     pure (a_prop.Pair w x.0, x.1)) i else (do
-    n ← name
-    d ← default_value
-    pure (a_prop.Shorthand n d.0, d.1)) i
+      n ← name
+      d ← default_value
+      pure (a_prop.Shorthand n d.0, d.1)) i
 
   unfoldable pub props : Parser (Read (List Prop))
   props = λ i. row_from bracket.Curly (ends_elems bracket.Curly) prop (count i) [] 0 i
@@ -152,8 +152,8 @@ module _ (inner : Inner) where
   unfoldable pub members_from : ℕ → List Member → ℕ → Parser (Read (List Member))
   members_from zero found h = refuse
   members_from (suc n) found h = λ i. if closes bracket.Curly (next i) then Ok ((found, h), i) else
-    (if is_semicolon (next i) then members_from n found h (behind i) else
-    and_then (member i) (λ x. members_from n (found ++ x.0 ∷ []) (max h x.1)))
+      (if is_semicolon (next i) then members_from n found h (behind i) else
+      and_then (member i) (λ x. members_from n (found ++ x.0 ∷ []) (max h x.1)))
 
   unfoldable pub heritage : Parser (Read (Option Expr))
   heritage = λ i. if is_extends_word (next i) then (do

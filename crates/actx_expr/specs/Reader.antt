@@ -169,7 +169,7 @@ row_after c again found = λ i. if is_comma (next i) then again (behind i) else 
 unfoldable pub row_from : {X : Type 0} → Bracket → (Kind → Bool) → Parser (Read X) → ℕ → List X → ℕ → Parser (Read (List X))
 row_from c ends item zero found h = λ i. Err NoTree
 row_from c ends item (suc n) found h = λ i. if ends (next i) then Ok ((found, h), i) else
-  and_then (item i) (λ x. row_after c (row_from c ends item n (found ++ x.0 ∷ []) (max h x.1)) (found ++ x.0 ∷ [], max h x.1))
+    and_then (item i) (λ x. row_after c (row_from c ends item n (found ++ x.0 ∷ []) (max h x.1)) (found ++ x.0 ∷ [], max h x.1))
 
 -- ---- what lies in a node
 

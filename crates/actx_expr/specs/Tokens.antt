@@ -12,7 +12,7 @@ use Rattle.actx_expr.specs.declared.word.Word.TheVariants as word
 use Rattle.actx_expr.specs.declared.bracket.Bracket.{Bracket}
 use Rattle.actx_expr.specs.declared.bracket.Bracket.TheVariants as bracket
 use Rattle.actx_expr.specs.Words.{same_units, async_word}
-use Rattle.actx_expr.specs.Kinds.{kind_of, begins_assign, begins_key, goes_on_line, ends_always, is_arrow_sign, is_function_word, is_star, is_static_word, is_open_parenthesis, is_name, is_comma}
+use Rattle.actx_expr.specs.Kinds.{kind_of, begins_assign, begins_key, goes_on_line, ends_always, is_arrow_sign, is_function_word, is_star, is_static_word, is_open_parenthesis, is_open_brace, is_name, is_comma}
 
 abbrev pub Tokens : Type 0
 Tokens = List Token
@@ -130,3 +130,7 @@ ends_expression a = ends_always (next a) || (not (is_on_line a) && not (goes_on_
 
 unfoldable pub ends_assign : Tokens → Bool
 ends_assign a = is_comma (next a) || ends_expression a
+
+-- the one closer of a Left
+unfoldable pub ends_left : Tokens → Bool
+ends_left a = is_open_brace (next a)

@@ -1,0 +1,12 @@
+//! Pairs of brackets.
+
+/// A pair of brackets.
+#[derive(Clone, Copy, Debug, PartialEq, Eq)]
+pub enum Bracket {
+    /// `(` and `)`
+    Round,
+    /// `[` and `]`
+    Square,
+    /// `{` and `}`
+    Curly,
+}

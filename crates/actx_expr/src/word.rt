@@ -1,0 +1,42 @@
+//! The reserved words that the grammar names.
+
+/// A reserved word (ECMA-262 §12.7.2), by its letters.
+#[derive(Clone, Copy, Debug, PartialEq, Eq)]
+pub enum Word {
+    Await,
+    Break,
+    Case,
+    Catch,
+    Class,
+    Const,
+    Continue,
+    Default,
+    Delete,
+    Do,
+    Else,
+    Extends,
+    False,
+    Finally,
+    For,
+    Function,
+    If,
+    In,
+    Instanceof,
+    Let,
+    New,
+    Null,
+    Return,
+    Static,
+    Super,
+    Switch,
+    This,
+    Throw,
+    True,
+    Try,
+    Typeof,
+    Void,
+    While,
+    Yield,
+    /// One that no line of the grammar names.
+    Other,
+}

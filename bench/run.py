@@ -3,6 +3,8 @@
 
 usage: bench/run.py [PROGRAM]      PROGRAM is crates/actx/out/actx if not given
 
+Cells are measured beside a plain list by the program of `crates/cells_speed`, where it is built (`rt run` there).
+
 Each line: what was measured, the two sizes in bytes, the time and the peak of memory at the larger one, and the ratio of
 the times per byte, which is near 1 where time is in proportion to size. Times are the least of five runs.
 """
@@ -55,6 +57,20 @@ def measure(program, name, make, sizes, expected):
     print(f'{name}: {small} and {large} bytes: {late:.3f} s, {memory / 1024:.1f} MiB, ratio per byte {ratio:.2f}')
 
 
+def cells(program, count):
+    """One line: the time of `count` writes and reads of cells, against the same of a list by index."""
+    times = {}
+    for what in ('cells', 'list'):
+        runs = []
+        for _ in range(5):
+            start = time.perf_counter()
+            subprocess.run([program, what, str(count)], check=True, stdout=subprocess.DEVNULL)
+            runs.append(time.perf_counter() - start)
+        times[what] = min(runs)
+    print(f'cells: {count} writes and reads: {times["cells"]:.3f} s, {2 * count / times["cells"] / 1e6:.0f} million a second, '
+          f'ratio to a list {times["cells"] / times["list"]:.2f}')
+
+
 def main():
     program = os.path.abspath(sys.argv[1]) if len(sys.argv) > 1 else os.path.join(TOP, 'crates/actx/out/actx')
     if not os.path.exists(program):
@@ -62,6 +78,9 @@ def main():
     measure(program, 'printing statements', repeated(PRINTING), (512 * KIB, 1024 * KIB), 0)
     # The tokens of a file that is read whole and then refused as not built.
     measure(program, 'tokens', repeated(MIXED), (256 * KIB, 1024 * KIB), 65)
+    beside = os.path.join(TOP, 'crates/cells_speed/out/cells_speed')
+    if os.path.exists(beside):
+        cells(beside, 10_000_000)
 
 
 if __name__ == '__main__':

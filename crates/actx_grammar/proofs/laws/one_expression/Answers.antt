@@ -1,0 +1,5 @@
+use Rattle.actx_grammar.proofs.TopLaws as law
+use Rattle.actx_grammar.proofs.laws.one_expression.Goals as goal
+
+pub returns : goal.returns
+returns c = law.one_expression

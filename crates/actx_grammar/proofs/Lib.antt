@@ -18,3 +18,7 @@ pub mod SoundLefts
 pub mod SoundExprs
 pub mod Answering
 pub mod TopLaws
+pub mod SizeLines
+pub mod LevelLines
+pub mod LowLines
+pub mod ReachLines

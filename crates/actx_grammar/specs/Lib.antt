@@ -6,6 +6,7 @@ pub mod Grammar
 pub mod Reader
 pub mod Patterns
 pub mod Lines
+pub mod Weights
 pub mod Given
 pub mod Laws
 pub mod Reads

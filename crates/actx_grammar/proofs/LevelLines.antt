@@ -39,12 +39,12 @@ use Rattle.actx_tree.proofs.LevelEquations as level
 use Rattle.actx_grammar.specs.Tokens.{Tokens}
 use Rattle.actx_grammar.specs.Grammar.{SpWord, word-name, word-reserved, SpName, name-some, name-none, SpLiteral, literal-word, literal-text, literal-number, SpRestName, rest_name-none, rest_name-some, SpUnread, unread, SpFunctionHead, head-plain, head-generator, head-async, SpMethodHead, method_head-plain, method_head-generator, method_head-async, SpTarget, target-name, target-object, target-object_rest, target-array, target-array_rest, SpProps, props-none, props-last, props-more, SpProp, prop-name, prop-pair, SpElems, elems-none, elems-last, elems-more, SpElem, elem, SpDefault, default-none, default-some, SpParams, params, SpRestTarget, rest-none, rest-some, SpFunction, function, SpMethod, method, SpClass, class-base, class-derived, SpMembers, members-none, members-semicolon, members-more, SpMember, member-static, member-plain, SpExpr, expr-one, expr-comma, SpCommas, commas-none, commas-more, SpAssign, assign-cond, assign-place, assign-yield, assign-yield_of, assign-arrow, assign-arrow_block, SpArrowHead, arrow_head-plain, arrow_head-async, SpArrowParams, arrow_params-name, arrow_params-list, SpCond, cond-one, cond-test, SpShort, short-or, short-coalesce, SpLevel, level-unary, level-one, level-chain, SpOperands, operands-none, operands-more, SpUnary, unary-op, unary-before, unary-after, unary-left, SpLeft, left-made, left-suffixes, SpMade, made-primary, made-new, made-new_bare, SpSuffixes, suffixes-none, suffixes-more, SpMemberSuffixes, member_suffixes-none, member_suffixes-more, SpSuffix, suffix-member, suffix-call, suffix-optional_name, suffix-optional_index, suffix-optional_call, SpMemberSuffix, member_suffix-name, member_suffix-index, SpIndex, index, SpArgs, args, SpArguments, arguments-none, arguments-last, arguments-more, SpArgument, argument-one, argument-spread, SpPrimary, primary-name, primary-number, primary-text, primary-true, primary-false, primary-null, primary-this, primary-template, primary-template_of, primary-brackets, primary-array, primary-object, primary-super_call, primary-super_member, primary-function, primary-class, SpPieces, pieces-last, pieces-more, SpEntries, entries-none, entries-last, entries-more, SpEntry, entry-spread, entry-name, entry-pair, entry-method, SpKey, key-literal, key-computed}
 
-mutual
-  levels-literal : {i0 : Key} {a b : Tokens} → SpLiteral i0 a b → key_levels i0 ≡ 0
-  levels-literal (literal-word {u = u} p0) = let z0 = level.key_levels-Word u in omega arith
-  levels-literal (literal-text {u = u} p0) = let z0 = level.key_levels-Text u in omega arith
-  levels-literal (literal-number {n = n} p0) = let z0 = level.key_levels-Number n in omega arith
+levels-literal : {i0 : Key} {a b : Tokens} → SpLiteral i0 a b → key_levels i0 ≡ 0
+levels-literal (literal-word {u = u} p0) = let z0 = level.key_levels-Word u in omega arith
+levels-literal (literal-text {u = u} p0) = let z0 = level.key_levels-Text u in omega arith
+levels-literal (literal-number {n = n} p0) = let z0 = level.key_levels-Number n in omega arith
 
+mutual
   pub levels-target : {i0 : Target} {i1 : ℕ} {a b : Tokens} → SpTarget i0 i1 a b → target_levels i0 ≡ i1
   levels-target (target-name {n = n} p0) = let z0 = level.target_levels-Name n in omega arith
   levels-target (target-object {x = x} {xs = xs} {r = r} p0 p1 p2) = let e1 = levels-props p1 in let z0 = level.target_levels-Object (x ∷ xs) r in omega arith

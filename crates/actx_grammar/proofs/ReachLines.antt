@@ -52,12 +52,12 @@ reach-append (r ∷ rs) qs = let e = reach-append rs qs in omega arith
 unread_reach : {r : Unread} {a b : Tokens} → SpUnread r a b → (dd : ℕ) → reach (body_at r dd) + length b ≤ dd + length a
 unread_reach (unread {a = m} {b = b} p0 p1 p2 p3) dd = let s = shorter (past-brackets bracket.Curly m 0 b p1) in omega arith
 
-mutual
-  pub reach-literal : {i0 : Key} {a b : Tokens} → SpLiteral i0 a b → (dd : ℕ) → reach (key_bodies i0 dd) + 1 + length b ≤ dd + length a
-  reach-literal (literal-word {u = u} p0) dd = let e0 = shorter (past-word p0) in let q0 = ap reach (found.key_bodies-Word u dd) in omega arith
-  reach-literal (literal-text {u = u} p0) dd = let q0 = ap reach (found.key_bodies-Text u dd) in omega arith
-  reach-literal (literal-number {n = n} p0) dd = let q0 = ap reach (found.key_bodies-Number n dd) in omega arith
+pub reach-literal : {i0 : Key} {a b : Tokens} → SpLiteral i0 a b → (dd : ℕ) → reach (key_bodies i0 dd) + 1 + length b ≤ dd + length a
+reach-literal (literal-word {u = u} p0) dd = let e0 = shorter (past-word p0) in let q0 = ap reach (found.key_bodies-Word u dd) in omega arith
+reach-literal (literal-text {u = u} p0) dd = let q0 = ap reach (found.key_bodies-Text u dd) in omega arith
+reach-literal (literal-number {n = n} p0) dd = let q0 = ap reach (found.key_bodies-Number n dd) in omega arith
 
+mutual
   pub reach-target : {i0 : Target} {i1 : ℕ} {a b : Tokens} → SpTarget i0 i1 a b → (dd : ℕ) → reach (target_bodies i0 dd) + 1 + length b ≤ dd + length a
   reach-target (target-name {n = n} p0) dd = let q0 = ap reach (found.target_bodies-Name n dd) in omega arith
   reach-target (target-object {x = x} {xs = xs} {r = r} p0 p1 p2) dd = let e1 = reach-props p1 (dd + 1) in let s1 = size-props p1 0 in let e2 = rest_size_bound p2 in let q0 = ap reach (found.target_bodies-Object (x ∷ xs) r dd) in omega arith
@@ -133,7 +133,7 @@ mutual
   reach-arrow_head (arrow_head-async {ps = ps} p0 p1 p2) dd = let e2 = reach-arrow_params p2 dd in let s2 = size-arrow_params p2 0 in omega arith
 
   pub reach-arrow_params : {i0 : Params} {i1 : ℕ} {a b : Tokens} → SpArrowParams i0 i1 a b → (dd : ℕ) → reach (params_bodies i0 dd) + 1 + length b ≤ dd + length a
-  reach-arrow_params (arrow_params-name {n = n} p0) dd = let q0 = ap reach (found.params_bodies-Params (elem_of (target.Name n) None ∷ []) None dd) in let w00 = reach-append (all (map elem_bodies (elem_of (target.Name n) None ∷ [])) dd) (or_none target_bodies None dd) in let q1 = ap reach (found.elem_bodies-Elem (target.Name n) None dd) in let w10 = reach-append (target_bodies (target.Name n) dd) (or_none expr_bodies None dd) in let q2 = ap reach (found.target_bodies-Name n dd) in omega arith
+  reach-arrow_params (arrow_params-name {n = n} p0) dd = let q0 = ap reach (found.params_bodies-Params (elem_of (target.Name n) None ∷ []) None dd) in let w00 = reach-append (all (map elem_bodies (elem_of (target.Name n) None ∷ [])) dd) (or_none target_bodies None dd) in let q1 = ap reach (found.elem_bodies-Elem (target.Name n) None dd) in let w10 = reach-append (target_bodies (target.Name n) dd) (or_none expr_bodies None dd) in let q2 = ap reach (found.target_bodies-Name n dd) in let l = reach-append (elem_bodies (elem_of (target.Name n) None) dd) [] in omega arith
   reach-arrow_params (arrow_params-list {ps = ps} p0) dd = let e0 = reach-params p0 dd in let s0 = size-params p0 0 in omega arith
 
   pub reach-cond : {i0 : Expr} {i1 : ℕ} {a b : Tokens} → SpCond i0 i1 a b → (dd : ℕ) → reach (expr_bodies i0 dd) + 1 + length b ≤ dd + length a

@@ -60,12 +60,12 @@ pub rest_size_bound : {c : Bracket} {r : Option Units} {a b : Tokens} → SpRest
 rest_size_bound (rest_name-none p0) = omega arith
 rest_size_bound (rest_name-some p0 p1 p2) = omega arith
 
-mutual
-  pub size-literal : {i0 : Key} {a b : Tokens} → SpLiteral i0 a b → (dd : ℕ) → key_size i0 + 8 + 16 * weight (key_bodies i0 dd) + 16 * length b ≤ 16 * length a
-  size-literal (literal-word {u = u} p0) dd = let e0 = shorter (past-word p0) in let z0 = sized.key_size-Word u in let q0 = ap weight (found.key_bodies-Word u dd) in omega arith
-  size-literal (literal-text {u = u} p0) dd = let z0 = sized.key_size-Text u in let q0 = ap weight (found.key_bodies-Text u dd) in omega arith
-  size-literal (literal-number {n = n} p0) dd = let z0 = sized.key_size-Number n in let q0 = ap weight (found.key_bodies-Number n dd) in omega arith
+pub size-literal : {i0 : Key} {a b : Tokens} → SpLiteral i0 a b → (dd : ℕ) → key_size i0 + 8 + 16 * weight (key_bodies i0 dd) + 16 * length b ≤ 16 * length a
+size-literal (literal-word {u = u} p0) dd = let e0 = shorter (past-word p0) in let z0 = sized.key_size-Word u in let q0 = ap weight (found.key_bodies-Word u dd) in omega arith
+size-literal (literal-text {u = u} p0) dd = let z0 = sized.key_size-Text u in let q0 = ap weight (found.key_bodies-Text u dd) in omega arith
+size-literal (literal-number {n = n} p0) dd = let z0 = sized.key_size-Number n in let q0 = ap weight (found.key_bodies-Number n dd) in omega arith
 
+mutual
   pub size-target : {i0 : Target} {i1 : ℕ} {a b : Tokens} → SpTarget i0 i1 a b → (dd : ℕ) → target_size i0 + 8 + 16 * weight (target_bodies i0 dd) + 16 * length b ≤ 16 * length a
   size-target (target-name {n = n} p0) dd = let z0 = sized.target_size-Name n in let q0 = ap weight (found.target_bodies-Name n dd) in omega arith
   size-target (target-object {x = x} {xs = xs} {r = r} p0 p1 p2) dd = let e1 = size-props p1 (dd + 1) in let e2 = rest_size_bound p2 in let z0 = sized.target_size-Object (x ∷ xs) r in let q0 = ap weight (found.target_bodies-Object (x ∷ xs) r dd) in omega arith
@@ -141,7 +141,7 @@ mutual
   size-arrow_head (arrow_head-async {ps = ps} p0 p1 p2) dd = let e2 = size-arrow_params p2 dd in omega arith
 
   pub size-arrow_params : {i0 : Params} {i1 : ℕ} {a b : Tokens} → SpArrowParams i0 i1 a b → (dd : ℕ) → params_size i0 + 8 + 16 * weight (params_bodies i0 dd) + 16 * length b ≤ 16 * length a
-  size-arrow_params (arrow_params-name {n = n} p0) dd = let z0 = sized.params_size-Params (elem_of (target.Name n) None ∷ []) None in let q0 = ap weight (found.params_bodies-Params (elem_of (target.Name n) None ∷ []) None dd) in let w00 = weight-append (all (map elem_bodies (elem_of (target.Name n) None ∷ [])) dd) (or_none target_bodies None dd) in let z1 = sized.elem_size-Elem (target.Name n) None in let q1 = ap weight (found.elem_bodies-Elem (target.Name n) None dd) in let w10 = weight-append (target_bodies (target.Name n) dd) (or_none expr_bodies None dd) in let z2 = sized.target_size-Name n in let q2 = ap weight (found.target_bodies-Name n dd) in omega arith
+  size-arrow_params (arrow_params-name {n = n} p0) dd = let z0 = sized.params_size-Params (elem_of (target.Name n) None ∷ []) None in let q0 = ap weight (found.params_bodies-Params (elem_of (target.Name n) None ∷ []) None dd) in let w00 = weight-append (all (map elem_bodies (elem_of (target.Name n) None ∷ [])) dd) (or_none target_bodies None dd) in let z1 = sized.elem_size-Elem (target.Name n) None in let q1 = ap weight (found.elem_bodies-Elem (target.Name n) None dd) in let w10 = weight-append (target_bodies (target.Name n) dd) (or_none expr_bodies None dd) in let z2 = sized.target_size-Name n in let q2 = ap weight (found.target_bodies-Name n dd) in let l = weight-append (elem_bodies (elem_of (target.Name n) None) dd) [] in omega arith
   size-arrow_params (arrow_params-list {ps = ps} p0) dd = let e0 = size-params p0 dd in omega arith
 
   pub size-cond : {i0 : Expr} {i1 : ℕ} {a b : Tokens} → SpCond i0 i1 a b → (dd : ℕ) → expr_size i0 + 8 + 16 * weight (expr_bodies i0 dd) + 16 * length b ≤ 16 * length a

@@ -14,6 +14,9 @@ pub use bracket::Bracket;
 pub use end::End;
 pub use error::{Cause, ParseError};
 pub use kind::Kind;
-pub use laws::{one_assign, one_expression, one_left, one_params, one_target};
+pub use laws::{
+    counted_levels, one_assign, one_expression, one_left, one_params, one_target, reached_bodies,
+    small_trees,
+};
 pub use line::Line;
 pub use word::Word;

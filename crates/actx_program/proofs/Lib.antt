@@ -1,0 +1,14 @@
+pub mod StatementPast
+pub mod StatementSizes
+pub mod StatementLevels
+pub mod StatementLow
+pub mod StatementReach
+pub mod Starts
+pub mod GetStatements
+pub mod CompleteStatements
+pub mod SoundStatements
+pub mod GetTrees
+pub mod SoundTrees
+pub mod TreeLaws
+pub mod EvenExpressions
+pub mod EvenStatements

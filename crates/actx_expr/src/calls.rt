@@ -94,9 +94,9 @@ fn line_up_to(
 /// Answers it, and the place behind it as a number of tokens.
 ///
 /// # Errors
-/// `NoTree` exactly where none is spelled there, `TooNested` exactly where one is that has a node
-/// with more than 200 nodes around it, each with the units of the text before the place where reading
-/// stopped; `Memory` where memory runs out.
+/// `NoTree` only where none is spelled there, of any depth, `TooNested` only where none is without a
+/// node that has more than 200 nodes around it; one of the two wherever nothing is given. Each has
+/// the units of the text before the place where reading stopped. `Memory` where memory runs out.
 pub fn expression(
     alloc: Global,
     tokens: &[Token],
@@ -122,9 +122,9 @@ pub fn expression(
 /// Answers it, and the place behind it as a number of tokens.
 ///
 /// # Errors
-/// `NoTree` exactly where none is spelled there, `TooNested` exactly where one is that has a node
-/// with more than 200 nodes around it, each with the units of the text before the place where reading
-/// stopped; `Memory` where memory runs out.
+/// `NoTree` only where none is spelled there, of any depth, `TooNested` only where none is without a
+/// node that has more than 200 nodes around it; one of the two wherever nothing is given. Each has
+/// the units of the text before the place where reading stopped. `Memory` where memory runs out.
 pub fn assign(
     alloc: Global,
     tokens: &[Token],
@@ -150,9 +150,9 @@ pub fn assign(
 /// Answers it, and the place behind it as a number of tokens.
 ///
 /// # Errors
-/// `NoTree` exactly where none is spelled there, `TooNested` exactly where one is that has a node
-/// with more than 200 nodes around it, each with the units of the text before the place where reading
-/// stopped; `Memory` where memory runs out.
+/// `NoTree` only where none is spelled there, of any depth, `TooNested` only where none is without a
+/// node that has more than 200 nodes around it; one of the two wherever nothing is given. Each has
+/// the units of the text before the place where reading stopped. `Memory` where memory runs out.
 pub fn left(
     alloc: Global,
     tokens: &[Token],
@@ -196,9 +196,9 @@ fn target_answer(
 /// Answers it, and the place behind it as a number of tokens.
 ///
 /// # Errors
-/// `NoTree` exactly where none is spelled there, `TooNested` exactly where one is that has a node
-/// with more than 200 nodes around it, each with the units of the text before the place where reading
-/// stopped; `Memory` where memory runs out.
+/// `NoTree` only where none is spelled there, of any depth, `TooNested` only where none is without a
+/// node that has more than 200 nodes around it; one of the two wherever nothing is given. Each has
+/// the units of the text before the place where reading stopped. `Memory` where memory runs out.
 pub fn target(
     alloc: Global,
     tokens: &[Token],
@@ -242,9 +242,9 @@ fn params_answer(
 /// Answers it, and the place behind it as a number of tokens.
 ///
 /// # Errors
-/// `NoTree` exactly where none is spelled there, `TooNested` exactly where one is that has a node
-/// with more than 200 nodes around it, each with the units of the text before the place where reading
-/// stopped; `Memory` where memory runs out.
+/// `NoTree` only where none is spelled there, of any depth, `TooNested` only where none is without a
+/// node that has more than 200 nodes around it; one of the two wherever nothing is given. Each has
+/// the units of the text before the place where reading stopped. `Memory` where memory runs out.
 pub fn params(
     alloc: Global,
     tokens: &[Token],

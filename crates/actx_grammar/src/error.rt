@@ -4,17 +4,17 @@ ghost use Rattle.std.specs.Prelude.{◌≡◌};
 
 use std::alloc::{AllocError, AllocFailed};
 
-/// Why nothing is read. `at` is the number of tokens before the place where reading stopped.
+/// Why nothing is read. `at` is where reading stopped: the number of units of the text before the token there.
 #[derive(Clone, Copy, Debug, PartialEq, Eq)]
 pub enum ParseError {
     /// The grammar has no tree there.
     NoTree {
-        /// The tokens before the place where reading stopped.
+        /// The units of the text before the token where reading stopped.
         at: usize,
     },
     /// The grammar has no tree there in which no node has more than 200 nodes around it.
     TooNested {
-        /// The tokens before the place where reading stopped.
+        /// The units of the text before the token where reading stopped.
         at: usize,
     },
     /// Memory ran out.

@@ -1,5 +1,5 @@
 //! Expressions from tokens (ECMA-262 §13 to §15): the tree relation of the grammar, a reader of it as
-//! a definition, and the laws that join them. The code that reads is not here yet.
+//! a definition, and the laws that join them. The code that reads stands in the crates above.
 #![tactic(auto)]
 
 mod bracket;

@@ -31,11 +31,17 @@ fn is_member(suffix: &Suffix) -> bool
 fn ends_in_member(suffixes: &[Suffix]) -> bool
     ensures { result ≡ places.ends_in_member suffixes.now }
 {
-    match suffixes {
-        [] => false,
-        [last] => !is_optional(last) && is_member(last),
-        [first, rest @ ..] => !is_optional(first) && ends_in_member(rest),
+    let mut left = suffixes;
+    while let [first, rest @ ..] = left {
+        if is_optional(first) {
+            return false;
+        }
+        if rest.is_empty() {
+            return is_member(first);
+        }
+        left = rest;
     }
+    false
 }
 
 /// Whether a tree is of `super`.

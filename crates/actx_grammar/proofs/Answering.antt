@@ -1,11 +1,11 @@
 -- From what a reader reads to what a public call says.
-use Rattle.std.proofs.Common.{◌≡◌, ◌≢◌, ℕ, zero, suc, ◌+◌, ◌-◌, ◌<◌, ◌≤◌, Bool, true, false, if◌then◌else◌, List, [], ◌∷◌, length, drop, Ok, Err, IfOk, Result, refl, sym, ap, ◌∙◌, subst, arith}
+use Rattle.std.proofs.Common.{◌≡◌, ℕ, ◌-◌, ◌<◌, ◌≤◌, Bool, true, false, if◌then◌else◌, length, drop, Ok, Err, Result, refl, sym, ap, ◌∙◌, subst, arith}
 use Rattle.actx_grammar.specs.declared.error.Cause.{Cause}
-use Rattle.actx_grammar.specs.declared.error.Cause.TheVariants.{NoTree, TooNested, Memory}
+use Rattle.actx_grammar.specs.declared.error.Cause.TheVariants.{NoTree, TooNested}
 use Rattle.actx_grammar.specs.Tokens.{Tokens}
 use Rattle.actx_grammar.specs.Reader.{Outcome, Read}
 use Rattle.actx_grammar.specs.Given.{ended}
-use Rattle.actx_grammar.proofs.Past.{Ends, whole, some, both, not_longer, drop_to, dropped}
+use Rattle.actx_grammar.proofs.Past.{Ends, both, not_longer, drop_to, dropped}
 use Rattle.actx_grammar.proofs.Gets.{Gets, got, deep}
 
 value_or : {A : Type 0} → A → Result A Cause → A

@@ -1,21 +1,16 @@
 -- What is spelled is read, or has too many levels.
-use Rattle.std.proofs.Common.{◌≡◌, ◌∙◌, ℕ, zero, suc, ◌+◌, ◌<◌, ◌≤◌, max, List, [], ◌∷◌, Option, Some, None, Ok, Err, refl, sym, ap, subst, arith}
-use Rattle.actx_lex.specs.declared.token.Punct.TheVariants as p
+use Rattle.std.proofs.Common.{◌≡◌, ℕ, zero, suc, ◌<◌, Err, refl, ap, arith}
 use Rattle.actx_tree.specs.declared.expr.Expr.{Expr}
 use Rattle.actx_tree.specs.declared.function.Function.{Function}
 use Rattle.actx_tree.specs.declared.function.Class.{Class}
 use Rattle.actx_tree.specs.declared.pattern.Target.{Target}
-use Rattle.actx_grammar.specs.declared.error.Cause.TheVariants.{NoTree, TooNested}
-use Rattle.actx_grammar.specs.declared.kind.Kind.TheVariants as kind
-use Rattle.actx_grammar.specs.declared.line.Line.TheVariants as line
+use Rattle.actx_grammar.specs.declared.error.Cause.TheVariants.{TooNested}
 use Rattle.actx_grammar.specs.Kinds.{is_name}
 use Rattle.actx_grammar.specs.Tokens.{Tokens}
-use Rattle.actx_grammar.specs.Reader.{Outcome, Inner}
 use Rattle.actx_grammar.specs.Patterns.{target_by, begins_pattern}
 use Rattle.actx_grammar.specs.Lines.{below, line_of, sunk}
 use Rattle.actx_grammar.specs.Grammar.{SpTarget, target-name, target-object, target-object_rest, target-array, target-array_rest, SpFunction, function, SpClass, class-base, class-derived, SpExpr, expr-one, expr-comma, SpAssign, assign-cond, assign-place, assign-yield, assign-yield_of, assign-arrow, assign-arrow_block, SpCond, cond-one, cond-test, SpShort, short-or, short-coalesce, SpLevel, level-unary, level-one, level-chain, SpUnary, unary-op, unary-before, unary-after, unary-left, SpLeft, left-made, left-suffixes, SpMade, made-primary, made-new, made-new_bare, SpPrimary, primary-name, primary-number, primary-text, primary-true, primary-false, primary-null, primary-this, primary-template, primary-template_of, primary-brackets, primary-array, primary-object, primary-super_call, primary-super_member, primary-function, primary-class}
-use Rattle.actx_grammar.proofs.Following.{after}
-use Rattle.actx_grammar.proofs.Gets.{Gets, got, deep, along, yes, no, take, done, next_of}
+use Rattle.actx_grammar.proofs.Gets.{Gets, deep, yes, no, take, done, next_of}
 use Rattle.actx_grammar.proofs.Parts.{name_is, is_name_of}
 use Rattle.actx_grammar.proofs.Completes.{Completes}
 use Rattle.actx_grammar.proofs.GetPatterns.{get-target}

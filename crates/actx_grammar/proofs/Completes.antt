@@ -1,5 +1,5 @@
 -- The readers of what lies in a node read all that is spelled.
-use Rattle.std.proofs.Common.{◌≡◌, ℕ, ◌+◌, ◌<◌}
+use Rattle.std.proofs.Common.{ℕ, ◌+◌, ◌<◌}
 use Rattle.actx_tree.specs.declared.expr.Expr.{Expr}
 use Rattle.actx_tree.specs.declared.pattern.Target.{Target}
 use Rattle.actx_grammar.specs.declared.line.Line.TheVariants as line

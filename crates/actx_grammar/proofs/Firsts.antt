@@ -1,5 +1,5 @@
 -- The token with which a spelling begins.
-use Rattle.std.proofs.Common.{◌≡◌, ℕ, zero, suc, Bool, true, false, not, ◌&&◌, ◌||◌, if◌then◌else◌, List, [], ◌∷◌, Option, Some, None, is_some, refl, sym, ap, ◌∙◌, subst}
+use Rattle.std.proofs.Common.{◌≡◌, ℕ, Bool, true, false, ◌&&◌, ◌||◌, if◌then◌else◌, [], ◌∷◌, Some, None, is_some, refl}
 use Rattle.actx_lex.specs.declared.token.Token.{Token}
 use Rattle.actx_lex.specs.declared.token.TokenKind.{TokenKind}
 use Rattle.actx_lex.specs.declared.token.TokenKind.TheVariants as k
@@ -26,10 +26,10 @@ use Rattle.actx_grammar.specs.declared.kind.Kind.TheVariants as kind
 use Rattle.actx_grammar.specs.declared.word.Word.TheVariants as word
 use Rattle.actx_grammar.specs.declared.bracket.Bracket.{Bracket}
 use Rattle.actx_grammar.specs.declared.bracket.Bracket.TheVariants as bracket
-use Rattle.actx_grammar.specs.Kinds.{kind_of, closes, is_dots, is_name, is_star, is_comma, is_semicolon, is_static_word, is_open_bracket, is_open_parenthesis, is_new_word, is_yield_word, unary_op, step_op, binary_op, begins_primary, begins_left, begins_unary, begins_assign, begins_key}
-use Rattle.actx_grammar.specs.Tokens.{Tokens, Is, next, behind, is_async, is_async_word, is_async_function, is_static, is_shorthand, method_flow}
+use Rattle.actx_grammar.specs.Kinds.{kind_of, closes, is_dots, is_name, is_star, is_semicolon, is_static_word, is_open_bracket, is_new_word, is_yield_word, unary_op, step_op, begins_primary, begins_left, begins_unary, begins_assign, begins_key}
+use Rattle.actx_grammar.specs.Tokens.{Tokens, Is, next, behind, is_async, is_async_word, is_async_function, is_static, method_flow}
 use Rattle.actx_grammar.specs.Patterns.{begins_pattern, ends_elems}
-use Rattle.actx_grammar.specs.Grammar.{SpWord, word-name, word-reserved, SpLiteral, literal-word, literal-text, literal-number, SpFunctionHead, head-plain, head-generator, head-async, SpMethodHead, method_head-plain, method_head-generator, method_head-async, SpTarget, target-name, target-object, target-object_rest, target-array, target-array_rest, SpProp, prop-name, prop-pair, SpElem, elem, SpParams, params, SpFunction, function, SpMethod, method, SpClass, class-base, class-derived, SpMember, member-static, member-plain, SpAssign, assign-cond, assign-place, assign-yield, assign-yield_of, assign-arrow, assign-arrow_block, SpArrowHead, arrow_head-plain, arrow_head-async, SpArrowParams, arrow_params-name, arrow_params-list, SpCond, cond-one, cond-test, SpShort, short-or, short-coalesce, SpLevel, level-unary, level-one, level-chain, SpUnary, unary-op, unary-before, unary-after, unary-left, SpLeft, left-made, left-suffixes, SpMade, made-primary, made-new, made-new_bare, SpArgument, argument-one, argument-spread, SpPrimary, primary-name, primary-number, primary-text, primary-true, primary-false, primary-null, primary-this, primary-template, primary-template_of, primary-brackets, primary-array, primary-object, primary-super_call, primary-super_member, primary-function, primary-class, SpEntry, entry-spread, entry-name, entry-pair, entry-method, SpKey, key-literal, key-computed}
+use Rattle.actx_grammar.specs.Grammar.{SpWord, word-name, word-reserved, SpLiteral, literal-word, literal-text, literal-number, SpFunctionHead, head-plain, head-generator, head-async, method_head-plain, method_head-generator, method_head-async, SpTarget, target-name, target-object, target-object_rest, target-array, target-array_rest, SpProp, prop-name, prop-pair, SpElem, elem, params, SpFunction, function, SpMethod, method, SpClass, class-base, class-derived, SpMember, member-static, member-plain, SpAssign, assign-cond, assign-place, assign-yield, assign-yield_of, assign-arrow, assign-arrow_block, SpArrowHead, arrow_head-plain, arrow_head-async, SpArrowParams, arrow_params-name, arrow_params-list, SpCond, cond-one, cond-test, SpShort, short-or, short-coalesce, SpLevel, level-unary, level-one, level-chain, SpUnary, unary-op, unary-before, unary-after, unary-left, SpLeft, left-made, left-suffixes, SpMade, made-primary, made-new, made-new_bare, SpArgument, argument-one, argument-spread, SpPrimary, primary-name, primary-number, primary-text, primary-true, primary-false, primary-null, primary-this, primary-template, primary-template_of, primary-brackets, primary-array, primary-object, primary-super_call, primary-super_member, primary-function, primary-class, SpEntry, entry-spread, entry-name, entry-pair, entry-method, SpKey, key-literal, key-computed}
 
 -- ---- names
 

@@ -1,5 +1,5 @@
 -- How a token that stands behind a spelling goes on with it: the least level of the grammar that takes it.
-use Rattle.std.proofs.Common.{◌≡◌, ℕ, zero, suc, ◌+◌, ◌<◌, ◌≤◌, ◌==◌, Bool, true, false, not, ◌&&◌, ◌||◌, if◌then◌else◌, List, [], ◌∷◌, Option, Some, None, is_some, refl, sym, ap, ◌∙◌, subst, arith, eq-eqb}
+use Rattle.std.proofs.Common.{◌≡◌, ℕ, ◌+◌, ◌<◌, ◌≤◌, ◌==◌, Bool, true, false, not, ◌&&◌, ◌||◌, if◌then◌else◌, ◌∷◌, Option, Some, None, is_some, refl, ap, ◌∙◌, arith}
 use Rattle.std.proofs.lemmas.Bool.Decides.{nat_tests}
 use Rattle.actx_lex.specs.declared.token.Token.{Token}
 use Rattle.actx_lex.specs.declared.token.Punct.TheVariants as p
@@ -12,7 +12,7 @@ use Rattle.actx_grammar.specs.declared.kind.Kind.TheVariants as kind
 use Rattle.actx_grammar.specs.declared.word.Word.TheVariants as word
 use Rattle.actx_grammar.specs.Kinds.{kind_of, begins_suffix, binary_op, level_of, step_op, assign_op, is_question, is_comma, is_open_brace, goes_on_line, ends_always}
 use Rattle.actx_grammar.specs.Tokens.{Tokens, Is, next, behind, is_on_line, ends_expression, ends_assign, ends_left}
-use Rattle.actx_grammar.specs.Lines.{of_level, operator_at, step_at, goes_on_suffix, goes_on_comma}
+use Rattle.actx_grammar.specs.Lines.{of_level, operator_at, step_at, goes_on_comma}
 
 abbrev pub by_operator : Option BinaryOp → ℕ → ℕ
 by_operator None n = n

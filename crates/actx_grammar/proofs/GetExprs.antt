@@ -1,8 +1,6 @@
 -- Operators, assignments, arrows and Expr: what is spelled is read, or has too many levels.
-use Rattle.std.proofs.Common.{◌≡◌, ◌∙◌, ℕ, ℤ, zero, suc, ◌+◌, ◌<◌, ◌≤◌, ◌==◌, nat_lt, max, Bool, true, false, not, ◌&&◌, ◌||◌, if◌then◌else◌, List, [], ◌∷◌, ◌++◌, length, Option, Some, None, is_some, Ok, Err, refl, sym, ap, subst, arith, append_assoc, append-nil, eq-eqb}
-use Rattle.actx_text.specs.declared.units.Units.{Units}
+use Rattle.std.proofs.Common.{◌≡◌, ◌∙◌, ℕ, suc, ◌+◌, ◌<◌, ◌≤◌, ◌==◌, nat_lt, max, Bool, true, false, ◌&&◌, List, [], ◌∷◌, length, Option, Some, None, is_some, Ok, refl, sym, ap, arith, eq-eqb}
 use Rattle.actx_lex.specs.declared.token.Token.{Token}
-use Rattle.actx_lex.specs.declared.token.TokenKind.TheVariants as k
 use Rattle.actx_lex.specs.declared.token.Punct.TheVariants as p
 use Rattle.actx_tree.specs.declared.operator.BinaryOp.{BinaryOp}
 use Rattle.actx_tree.specs.declared.operator.UnaryOp.{UnaryOp}
@@ -10,43 +8,24 @@ use Rattle.actx_tree.specs.declared.operator.StepOp.{StepOp}
 use Rattle.actx_tree.specs.declared.operator.AssignOp.{AssignOp}
 use Rattle.actx_tree.specs.declared.expr.Expr.{Expr, the_lemmas}
 use Rattle.actx_tree.specs.declared.expr.Expr.TheVariants as e
-use Rattle.actx_tree.specs.declared.expr.Piece.{Piece}
-use Rattle.actx_tree.specs.declared.expr.Argument.{Argument}
-use Rattle.actx_tree.specs.declared.expr.Argument.TheVariants as an_argument
-use Rattle.actx_tree.specs.declared.expr.Entry.{Entry}
-use Rattle.actx_tree.specs.declared.expr.Entry.TheVariants as an_entry
-use Rattle.actx_tree.specs.declared.expr.Key.{Key}
-use Rattle.actx_tree.specs.declared.expr.Suffix.{Suffix}
-use Rattle.actx_tree.specs.declared.expr.Suffix.TheVariants as a_suffix
 use Rattle.actx_tree.specs.declared.expr.Operand.{Operand}
-use Rattle.actx_tree.specs.declared.function.Flow.{Flow}
-use Rattle.actx_tree.specs.declared.function.Flow.TheVariants as flow
-use Rattle.actx_tree.specs.declared.function.Function.{Function}
-use Rattle.actx_tree.specs.declared.function.Method.{Method}
-use Rattle.actx_tree.specs.declared.function.Class.{Class}
-use Rattle.actx_tree.specs.declared.pattern.Target.{Target}
 use Rattle.actx_tree.specs.declared.pattern.Params.{Params}
-use Rattle.actx_tree.specs.Parts.{piece_of, operand_of, elem_of, params_of}
-use Rattle.actx_grammar.specs.declared.error.Cause.TheVariants.{NoTree, TooNested}
+use Rattle.actx_tree.specs.Parts.{operand_of}
 use Rattle.actx_grammar.specs.declared.kind.Kind.{Kind}
 use Rattle.actx_grammar.specs.declared.kind.Kind.TheVariants as kind
 use Rattle.actx_grammar.specs.declared.word.Word.TheVariants as word
-use Rattle.actx_grammar.specs.declared.bracket.Bracket.{Bracket}
-use Rattle.actx_grammar.specs.declared.bracket.Bracket.TheVariants as bracket
-use Rattle.actx_grammar.specs.declared.line.Line.{Line}
-use Rattle.actx_grammar.specs.declared.line.Line.TheVariants as line
 use Rattle.std.proofs.lemmas.Bool.Decides.{nat_tests}
-use Rattle.actx_grammar.specs.Kinds.{kind_of, is_comma, is_colon, is_question, is_name, is_open_brace, is_arrow_sign, is_yield_word, is_new_word, binary_op, level_of, unary_op, step_op, assign_op, begins_unary}
-use Rattle.actx_grammar.specs.Tokens.{Tokens, Is, next, behind, is_on_line, is_async, is_async_word, has_arrow, arrow_by, arrow_start, has_operand}
-use Rattle.actx_grammar.specs.Places.{is_place, is_logical}
-use Rattle.actx_grammar.specs.Reader.{Outcome, Parser, Read, Inner, and_then, count}
+use Rattle.actx_grammar.specs.Kinds.{kind_of, is_comma, is_colon, is_question, is_name, is_open_brace, is_yield_word, binary_op, level_of, unary_op, step_op, assign_op}
+use Rattle.actx_grammar.specs.Tokens.{Tokens, Is, next, behind, is_on_line, is_async, has_arrow, arrow_by, arrow_start, has_operand}
+use Rattle.actx_grammar.specs.Places.{is_logical}
+use Rattle.actx_grammar.specs.Reader.{Read, Inner, and_then, count}
 use Rattle.actx_grammar.specs.Lines as r
-use Rattle.actx_grammar.specs.Grammar.{SpParams, params, SpUnread, unread, SpExpr, expr-one, expr-comma, SpCommas, commas-none, commas-more, SpAssign, assign-cond, assign-place, assign-yield, assign-yield_of, assign-arrow, assign-arrow_block, SpArrowHead, arrow_head-plain, arrow_head-async, SpArrowParams, arrow_params-name, arrow_params-list, SpCond, cond-one, cond-test, SpShort, short-or, short-coalesce, SpLevel, level-unary, level-one, level-chain, SpOperands, operands-none, operands-more, SpUnary, unary-op, unary-before, unary-after, unary-left, SpLeft, left-made, left-suffixes, SpMade, made-primary, made-new, made-new_bare, SpPrimary, primary-name, primary-number, primary-text, primary-true, primary-false, primary-null, primary-this, primary-template, primary-template_of, primary-brackets, primary-array, primary-object, primary-super_call, primary-super_member, primary-function, primary-class}
+use Rattle.actx_grammar.specs.Grammar.{params, SpUnread, unread, SpExpr, expr-one, expr-comma, SpCommas, commas-none, commas-more, SpAssign, assign-cond, assign-place, assign-yield, assign-yield_of, assign-arrow, assign-arrow_block, SpArrowHead, arrow_head-plain, arrow_head-async, SpArrowParams, arrow_params-name, arrow_params-list, SpCond, cond-one, cond-test, SpShort, short-or, short-coalesce, SpLevel, level-unary, level-one, level-chain, SpOperands, operands-none, operands-more, SpUnary, unary-op, unary-before, unary-after, unary-left, SpLeft, left-made, left-suffixes, SpMade, made-primary, made-new, made-new_bare, SpPrimary, primary-name, primary-number, primary-text, primary-true, primary-false, primary-null, primary-this, primary-template, primary-template_of, primary-brackets, primary-array, primary-object, primary-super_call, primary-super_member, primary-function, primary-class}
 use Rattle.actx_grammar.proofs.Past.{shorter}
 use Rattle.actx_grammar.proofs.PastLines.{past-assign, past-level}
-use Rattle.actx_grammar.proofs.Following.{after, following, after_is, after_operator, after_step, after_assign, no_step, no_operator, no_question, no_assign, no_comma}
+use Rattle.actx_grammar.proofs.Following.{after, after_is, after_operator, after_step, after_assign, no_step, no_operator, no_question, no_assign, no_comma}
 use Rattle.actx_grammar.proofs.Firsts.{first-left, first-cond, no_unary, no_step_before, step_no_unary, not_yield, first-async}
-use Rattle.actx_grammar.proofs.Gets.{Gets, got, deep, along, yes, no, take, seq, node, done, fitting, next_of, skipped, expected, Run, run-none, run-more, many_gets}
+use Rattle.actx_grammar.proofs.Gets.{Gets, got, along, yes, no, take, seq, node, done, fitting, next_of, skipped, expected, Run, run-none, run-more, many_gets}
 use Rattle.actx_grammar.proofs.Parts.{name_is, is_name_of, unread_is}
 use Rattle.actx_grammar.proofs.Completes.{Completes}
 use Rattle.actx_grammar.proofs.GetPatterns.{get-params}

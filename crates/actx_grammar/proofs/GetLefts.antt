@@ -1,53 +1,39 @@
 -- Primaries, new and what follows them: what is spelled is read, or has too many levels.
-use Rattle.std.proofs.Common.{◌≡◌, ◌∙◌, ℕ, ℤ, zero, suc, ◌+◌, ◌<◌, ◌≤◌, ◌==◌, max, Bool, true, false, not, ◌&&◌, ◌||◌, if◌then◌else◌, List, [], ◌∷◌, ◌++◌, length, Option, Some, None, is_some, Ok, Err, refl, sym, ap, subst, arith, append_assoc, append-nil, eq-eqb}
+use Rattle.std.proofs.Common.{◌≡◌, ◌∙◌, ℕ, zero, suc, ◌<◌, ◌≤◌, max, true, false, ◌&&◌, List, [], ◌∷◌, ◌++◌, length, refl, sym, ap, arith, append_assoc}
 use Rattle.actx_text.specs.declared.units.Units.{Units}
 use Rattle.actx_lex.specs.declared.token.Token.{Token}
-use Rattle.actx_lex.specs.declared.token.TokenKind.TheVariants as k
 use Rattle.actx_lex.specs.declared.token.Punct.TheVariants as p
-use Rattle.actx_tree.specs.declared.operator.BinaryOp.{BinaryOp}
-use Rattle.actx_tree.specs.declared.operator.UnaryOp.{UnaryOp}
-use Rattle.actx_tree.specs.declared.operator.StepOp.{StepOp}
-use Rattle.actx_tree.specs.declared.operator.AssignOp.{AssignOp}
-use Rattle.actx_tree.specs.declared.expr.Expr.{Expr, the_lemmas}
+use Rattle.actx_tree.specs.declared.expr.Expr.{Expr}
 use Rattle.actx_tree.specs.declared.expr.Expr.TheVariants as e
 use Rattle.actx_tree.specs.declared.expr.Piece.{Piece}
 use Rattle.actx_tree.specs.declared.expr.Argument.{Argument}
-use Rattle.actx_tree.specs.declared.expr.Argument.TheVariants as an_argument
 use Rattle.actx_tree.specs.declared.expr.Entry.{Entry}
 use Rattle.actx_tree.specs.declared.expr.Entry.TheVariants as an_entry
-use Rattle.actx_tree.specs.declared.expr.Key.{Key}
 use Rattle.actx_tree.specs.declared.expr.Suffix.{Suffix}
 use Rattle.actx_tree.specs.declared.expr.Suffix.TheVariants as a_suffix
-use Rattle.actx_tree.specs.declared.expr.Operand.{Operand}
-use Rattle.actx_tree.specs.declared.function.Flow.{Flow}
-use Rattle.actx_tree.specs.declared.function.Flow.TheVariants as flow
 use Rattle.actx_tree.specs.declared.function.Function.{Function}
 use Rattle.actx_tree.specs.declared.function.Method.{Method}
 use Rattle.actx_tree.specs.declared.function.Class.{Class}
-use Rattle.actx_tree.specs.declared.pattern.Target.{Target}
 use Rattle.actx_tree.specs.declared.pattern.Params.{Params}
-use Rattle.actx_tree.specs.Parts.{piece_of, operand_of, elem_of, params_of}
-use Rattle.actx_grammar.specs.declared.error.Cause.TheVariants.{NoTree, TooNested}
+use Rattle.actx_tree.specs.Parts.{piece_of}
 use Rattle.actx_grammar.specs.declared.kind.Kind.{Kind}
 use Rattle.actx_grammar.specs.declared.kind.Kind.TheVariants as kind
 use Rattle.actx_grammar.specs.declared.word.Word.TheVariants as word
 use Rattle.actx_grammar.specs.declared.bracket.Bracket.{Bracket}
 use Rattle.actx_grammar.specs.declared.bracket.Bracket.TheVariants as bracket
-use Rattle.actx_grammar.specs.declared.line.Line.{Line}
-use Rattle.actx_grammar.specs.declared.line.Line.TheVariants as line
-use Rattle.actx_grammar.specs.Kinds.{kind_of, closes, closing, is_comma, is_colon, is_dots, is_name, is_open_parenthesis, is_open_bracket, is_open_brace, is_new_word, begins_suffix, begins_member, begins_primary}
-use Rattle.actx_grammar.specs.Tokens.{Tokens, Is, next, behind, is_async_function, is_shorthand, method_flow}
-use Rattle.actx_grammar.specs.Reader.{Outcome, Parser, Read, Inner, and_then, count}
+use Rattle.actx_grammar.specs.Kinds.{kind_of, closes, closing, is_comma, is_colon, is_dots, is_open_parenthesis, is_open_bracket, is_new_word, begins_suffix, begins_member}
+use Rattle.actx_grammar.specs.Tokens.{Tokens, Is, next}
+use Rattle.actx_grammar.specs.Reader.{Inner, count}
 use Rattle.actx_grammar.specs.Lines as r
-use Rattle.actx_grammar.specs.Grammar.{SpWord, word-name, word-reserved, SpMethodHead, method_head-plain, method_head-generator, method_head-async, SpParams, params, SpMethod, method, SpFunction, SpClass, SpExpr, SpAssign, SpLeft, left-made, left-suffixes, SpMade, made-primary, made-new, made-new_bare, SpSuffixes, suffixes-none, suffixes-more, SpMemberSuffixes, member_suffixes-none, member_suffixes-more, SpSuffix, suffix-member, suffix-call, suffix-optional_name, suffix-optional_index, suffix-optional_call, SpMemberSuffix, member_suffix-name, member_suffix-index, SpIndex, index, SpArgs, args, SpArguments, arguments-none, arguments-last, arguments-more, SpArgument, argument-one, argument-spread, SpPrimary, primary-name, primary-number, primary-text, primary-true, primary-false, primary-null, primary-this, primary-template, primary-template_of, primary-brackets, primary-array, primary-object, primary-super_call, primary-super_member, primary-function, primary-class, SpPieces, pieces-last, pieces-more, SpEntries, entries-none, entries-last, entries-more, SpEntry, entry-spread, entry-name, entry-pair, entry-method, SpKey, key-literal, key-computed, SpFunctionHead, head-plain, head-generator, head-async, function, class-base, class-derived}
+use Rattle.actx_grammar.specs.Grammar.{SpWord, word-name, word-reserved, method_head-plain, SpParams, params, SpMethod, method, SpFunction, SpClass, SpLeft, left-made, left-suffixes, SpMade, made-primary, made-new, made-new_bare, SpSuffixes, suffixes-none, suffixes-more, SpMemberSuffixes, member_suffixes-none, member_suffixes-more, SpSuffix, suffix-member, suffix-call, suffix-optional_name, suffix-optional_index, suffix-optional_call, SpMemberSuffix, member_suffix-name, member_suffix-index, SpIndex, index, SpArgs, args, SpArguments, arguments-none, arguments-last, arguments-more, SpArgument, argument-one, argument-spread, SpPrimary, primary-name, primary-number, primary-text, primary-true, primary-false, primary-null, primary-this, primary-template, primary-template_of, primary-brackets, primary-array, primary-object, primary-super_call, primary-super_member, primary-function, primary-class, SpPieces, pieces-last, pieces-more, SpEntries, entries-none, entries-last, entries-more, SpEntry, entry-spread, entry-name, entry-pair, entry-method, head-plain, head-generator, head-async, function, class-base, class-derived}
 use Rattle.actx_grammar.proofs.Past.{shorter}
 use Rattle.actx_grammar.proofs.PastLines.{past-argument, past-entry, past-suffix, past-member_suffix, past-expr}
-use Rattle.actx_grammar.proofs.Following.{after, following, after_is, after_suffix, no_suffix}
+use Rattle.actx_grammar.proofs.Following.{after, after_is, no_suffix}
 use Rattle.actx_grammar.proofs.Firsts.{first-argument, first-entry, first-assign, first-primary, first-async_function, not_dots, not_new, method_not_dots, key_no_dots}
-use Rattle.actx_grammar.proofs.Gets.{Gets, got, deep, along, yes, no, take, seq, node, done, done_as, fitting, next_of, skipped, expected, closes_closing, closed, tested_left, Run, run-none, run-more, many_gets, Row, row-none, row-last, row-more, row_gets}
-use Rattle.actx_grammar.proofs.Parts.{name_is, number_is, text_is, opening_is, piece_is, word_is, is_name_of, method_head_is}
+use Rattle.actx_grammar.proofs.Gets.{Gets, got, along, yes, no, take, seq, node, done, fitting, next_of, skipped, expected, closed, tested_left, Run, run-none, run-more, many_gets, Row, row-none, row-last, row-more, row_gets}
+use Rattle.actx_grammar.proofs.Parts.{name_is, number_is, text_is, opening_is, piece_is, word_is, method_head_is}
 use Rattle.actx_grammar.proofs.Completes.{Completes}
-use Rattle.actx_grammar.proofs.GetPatterns.{after_closing, closes_next, after_comma, get-params, get-function, get-class, get-key, get-method_tail}
+use Rattle.actx_grammar.proofs.GetPatterns.{after_closing, closes_next, after_comma, get-function, get-class, get-key, get-method_tail}
 
 closes_left : (c : Bracket) (b : Tokens) → closes c (next b) ≡ true → 0 < length b
 closes_left bracket.Round b e = tested_left (closes bracket.Round) b e refl

@@ -1,12 +1,11 @@
 -- Patterns, parameters, functions, methods and classes: what is spelled is read, or has too many levels.
-use Rattle.std.proofs.Common.{◌≡◌, ◌∙◌, ℕ, zero, suc, ◌+◌, ◌<◌, ◌≤◌, max, Bool, true, false, ◌||◌, if◌then◌else◌, List, [], ◌∷◌, ◌++◌, length, Option, Some, None, Ok, Err, refl, sym, ap, subst, arith, append_assoc, append-nil}
+use Rattle.std.proofs.Common.{◌≡◌, ◌∙◌, ℕ, zero, suc, ◌<◌, ◌≤◌, max, Bool, true, false, List, [], ◌∷◌, ◌++◌, length, Option, None, refl, sym, ap, arith, append_assoc, append-nil}
 use Rattle.actx_text.specs.declared.units.Units.{Units}
 use Rattle.actx_lex.specs.declared.token.Token.{Token}
 use Rattle.actx_lex.specs.declared.token.Punct.TheVariants as p
 use Rattle.actx_tree.specs.declared.expr.Expr.{Expr}
 use Rattle.actx_tree.specs.declared.expr.Expr.{the_lemmas}
 use Rattle.actx_tree.specs.declared.expr.Key.{Key}
-use Rattle.actx_tree.specs.declared.expr.Key.TheVariants as a_key
 use Rattle.actx_tree.specs.declared.function.Flow.{Flow}
 use Rattle.actx_tree.specs.declared.function.Unread.{Unread}
 use Rattle.actx_tree.specs.declared.function.Function.{Function}
@@ -14,30 +13,26 @@ use Rattle.actx_tree.specs.declared.function.Method.{Method}
 use Rattle.actx_tree.specs.declared.function.Class.{Class}
 use Rattle.actx_tree.specs.declared.function.Member.{Member}
 use Rattle.actx_tree.specs.declared.pattern.Target.{Target}
-use Rattle.actx_tree.specs.declared.pattern.Target.TheVariants as a_target
 use Rattle.actx_tree.specs.declared.pattern.Prop.{Prop}
-use Rattle.actx_tree.specs.declared.pattern.Prop.TheVariants as a_prop
 use Rattle.actx_tree.specs.declared.pattern.Elem.{Elem}
 use Rattle.actx_tree.specs.declared.pattern.Params.{Params}
 use Rattle.actx_grammar.specs.declared.kind.Kind.{Kind}
 use Rattle.actx_grammar.specs.declared.kind.Kind.TheVariants as kind
-use Rattle.actx_grammar.specs.declared.word.Word.TheVariants as word
 use Rattle.actx_grammar.specs.declared.bracket.Bracket.{Bracket}
 use Rattle.actx_grammar.specs.declared.bracket.Bracket.TheVariants as bracket
-use Rattle.actx_grammar.specs.declared.line.Line.TheVariants as line
-use Rattle.actx_grammar.specs.Kinds.{kind_of, closes, closing, assign_op, is_comma, is_colon, is_equals, is_dots, is_name, is_open_parenthesis, is_open_bracket, is_open_brace, is_class_word, is_extends_word, is_semicolon}
-use Rattle.actx_grammar.specs.Tokens.{Tokens, Is, next, behind, is_static}
+use Rattle.actx_grammar.specs.Kinds.{closes, closing, assign_op, is_comma, is_colon, is_equals, is_dots, is_name, is_open_parenthesis, is_open_bracket, is_open_brace, is_class_word, is_extends_word, is_semicolon}
+use Rattle.actx_grammar.specs.Tokens.{Tokens, Is, next, behind}
 use Rattle.actx_grammar.specs.Places.{is_plain_key, has_plain_key}
-use Rattle.actx_grammar.specs.Reader.{Outcome, Parser, Read, Inner, and_then, count}
+use Rattle.actx_grammar.specs.Reader.{Inner, count}
 use Rattle.actx_grammar.specs.Patterns as r
 use Rattle.actx_grammar.specs.Patterns.{ends_elems, begins_pattern}
-use Rattle.actx_tree.specs.Parts.{function_of, method_of, class_of, member_of, elem_of, params_of}
-use Rattle.actx_grammar.specs.Grammar.{SpUnread, SpMethodHead, SpRestName, rest_name-none, rest_name-some, SpName, name-some, name-none, SpTarget, target-name, target-object, target-object_rest, target-array, target-array_rest, SpProps, props-none, props-last, props-more, SpProp, prop-name, prop-pair, SpElems, elems-none, elems-last, elems-more, SpElem, elem, SpDefault, default-none, default-some, SpParams, params, SpRestTarget, rest-none, rest-some, SpFunction, function, SpMethod, method, SpClass, class-base, class-derived, SpMembers, members-none, members-semicolon, members-more, SpMember, member-static, member-plain, SpKey, key-literal, key-computed}
+use Rattle.actx_tree.specs.Parts.{method_of, member_of}
+use Rattle.actx_grammar.specs.Grammar.{SpUnread, SpRestName, rest_name-none, rest_name-some, SpTarget, target-name, target-object, target-object_rest, target-array, target-array_rest, SpProps, props-none, props-last, props-more, SpProp, prop-name, prop-pair, SpElems, elems-none, elems-last, elems-more, SpElem, elem, SpDefault, default-none, default-some, SpParams, params, SpRestTarget, rest-none, rest-some, SpFunction, function, SpMethod, method, SpClass, class-base, class-derived, SpMembers, members-none, members-semicolon, members-more, SpMember, member-static, member-plain, SpKey, key-literal, key-computed}
 use Rattle.actx_grammar.proofs.Past.{shorter}
 use Rattle.actx_grammar.proofs.PastLines.{past-elem, past-prop, past-member}
 use Rattle.actx_grammar.proofs.Following.{after, following, after_is, behind_is, no_assign}
 use Rattle.actx_grammar.proofs.Firsts.{first-elem, first-prop, behind-literal, literal_no_bracket, member_not_end, member_not_semicolon}
-use Rattle.actx_grammar.proofs.Gets.{Gets, got, deep, along, yes, no, take, seq, node, done, fitted, next_of, skipped, expected, closes_closing, closed, tested_left, Row, row-none, row-last, row-more, row_gets}
+use Rattle.actx_grammar.proofs.Gets.{Gets, got, along, yes, no, take, seq, node, done, fitted, next_of, skipped, expected, closes_closing, closed, tested_left, Row, row-none, row-last, row-more, row_gets}
 use Rattle.actx_grammar.proofs.Parts.{name_is, is_name_of, optional_is, rest_is, literal_is, unread_is, function_head_is, method_head_is}
 use Rattle.actx_grammar.proofs.Completes.{Completes}
 

@@ -1,17 +1,15 @@
 -- What reading a spelling gives: its value, or TooNested where it has too many levels.
-use Rattle.std.proofs.Common.{◌≡◌, ◌∙◌, ℕ, zero, suc, ◌+◌, ◌<◌, ◌≤◌, max, Bool, true, false, if◌then◌else◌, List, [], ◌∷◌, ◌++◌, length, Ok, Err, refl, sym, ap, subst, nat_le, arith, append_assoc, append-nil}
+use Rattle.std.proofs.Common.{◌≡◌, ◌∙◌, ℕ, zero, suc, ◌<◌, ◌≤◌, max, Bool, true, false, if◌then◌else◌, List, [], ◌∷◌, ◌++◌, length, Ok, Err, refl, sym, ap, subst, nat_le, arith, append_assoc, append-nil}
 use Rattle.std.proofs.lemmas.Bool.Decides.{nat_tests}
-use Rattle.std.proofs.lemmas.Bool.{cases_lt}
-use Rattle.std.proofs.Common.{inl, inr}
 use Rattle.actx_lex.specs.declared.token.Token.{Token}
-use Rattle.actx_grammar.specs.declared.error.Cause.TheVariants.{NoTree, TooNested}
+use Rattle.actx_grammar.specs.declared.error.Cause.TheVariants.{TooNested}
 use Rattle.actx_grammar.specs.declared.kind.Kind.{Kind}
 use Rattle.actx_grammar.specs.declared.kind.Kind.TheVariants as kind
 use Rattle.actx_grammar.specs.declared.bracket.Bracket.{Bracket}
 use Rattle.actx_grammar.specs.declared.bracket.Bracket.TheVariants as bracket
 use Rattle.actx_grammar.specs.Kinds.{kind_of, closes, closing, is_comma}
 use Rattle.actx_grammar.specs.Tokens.{Tokens, Is, next, behind}
-use Rattle.actx_grammar.specs.Reader.{Outcome, Parser, Read, Inner, and_then, expect, many_from, row_from, row_after, fits}
+use Rattle.actx_grammar.specs.Reader.{Outcome, Parser, Read, Inner, and_then, expect, many_from, row_from, fits}
 
 pub data Gets {A : Type 0} (lim h : ℕ) (o : Outcome A) (v : A) (b : Tokens) : Type 0 where
   got : h ≤ lim → o ≡ Ok (v, b) → Gets lim h o v b

@@ -1,5 +1,5 @@
 -- What holds of what a parser reads.
-use Rattle.std.proofs.Common.{◌≡◌, ◌∙◌, sym, subst, refl, ap, ℕ, zero, suc, ◌≤◌, ◌<◌, ◌+◌, max, Bool, true, false, nat_le, if◌then◌else◌, List, [], ◌∷◌, ◌++◌, length, Ok, Err, arith, append_assoc, append-nil}
+use Rattle.std.proofs.Common.{◌≡◌, ◌∙◌, sym, subst, refl, ap, ℕ, zero, suc, ◌≤◌, max, Bool, true, false, nat_le, if◌then◌else◌, List, [], ◌∷◌, ◌++◌, length, Ok, Err, arith, append_assoc, append-nil}
 use Rattle.std.proofs.lemmas.Bool.Decides.{nat_tests}
 use Rattle.actx_lex.specs.declared.token.Token.{Token}
 use Rattle.actx_grammar.specs.declared.error.Cause.{Cause}
@@ -7,10 +7,9 @@ use Rattle.actx_grammar.specs.declared.error.Cause.TheVariants.{NoTree, TooNeste
 use Rattle.actx_grammar.specs.declared.kind.Kind.{Kind}
 use Rattle.actx_grammar.specs.declared.kind.Kind.TheVariants as kind
 use Rattle.actx_grammar.specs.declared.bracket.Bracket.{Bracket}
-use Rattle.actx_grammar.specs.declared.bracket.Bracket.TheVariants as bracket
-use Rattle.actx_grammar.specs.Kinds.{kind_of, closes, closing, is_comma}
-use Rattle.actx_grammar.specs.Tokens.{Tokens, Is, next, behind}
-use Rattle.actx_grammar.specs.Reader.{Outcome, Parser, Read, Inner, and_then, count, expect, many_from, row_from, row_after, fits}
+use Rattle.actx_grammar.specs.Kinds.{kind_of, closes, is_comma}
+use Rattle.actx_grammar.specs.Tokens.{Tokens, next, behind}
+use Rattle.actx_grammar.specs.Reader.{Outcome, Parser, Read, Inner, and_then, count, expect, many_from, row_from, fits}
 
 pub record Holds {A : Type 0} (S : A → Tokens → Type 0) (o : Outcome A) : Type 0 where
   pub ok : (v : A) (b : Tokens) → o ≡ Ok (v, b) → S v b

@@ -1,11 +1,5 @@
 -- The levels that a spelling counts are those of its tree: a table over the grammar.
-use Rattle.std.proofs.Common.{◌≡◌, ◌∙◌, ℕ, zero, suc, ◌+◌, ◌≤◌, max, Bool, true, false, List, [], ◌∷◌, map, Option, Some, None, refl, sym, ap, arith}
-use Rattle.actx_text.specs.declared.units.Units.{Units}
-use Rattle.actx_lex.specs.declared.token.Token.{Token}
-use Rattle.actx_tree.specs.declared.operator.BinaryOp.{BinaryOp}
-use Rattle.actx_tree.specs.declared.operator.UnaryOp.{UnaryOp}
-use Rattle.actx_tree.specs.declared.operator.StepOp.{StepOp}
-use Rattle.actx_tree.specs.declared.operator.AssignOp.{AssignOp}
+use Rattle.std.proofs.Common.{◌≡◌, ℕ, Bool, true, false, List, [], ◌∷◌, map, Option, Some, None, arith}
 use Rattle.actx_tree.specs.declared.expr.Expr.{Expr}
 use Rattle.actx_tree.specs.declared.expr.Piece.{Piece}
 use Rattle.actx_tree.specs.declared.expr.Argument.{Argument}
@@ -13,8 +7,6 @@ use Rattle.actx_tree.specs.declared.expr.Entry.{Entry}
 use Rattle.actx_tree.specs.declared.expr.Key.{Key}
 use Rattle.actx_tree.specs.declared.expr.Suffix.{Suffix}
 use Rattle.actx_tree.specs.declared.expr.Operand.{Operand}
-use Rattle.actx_tree.specs.declared.function.Flow.{Flow}
-use Rattle.actx_tree.specs.declared.function.Unread.{Unread}
 use Rattle.actx_tree.specs.declared.function.Function.{Function}
 use Rattle.actx_tree.specs.declared.function.Method.{Method}
 use Rattle.actx_tree.specs.declared.function.Class.{Class}
@@ -23,21 +15,13 @@ use Rattle.actx_tree.specs.declared.pattern.Target.{Target}
 use Rattle.actx_tree.specs.declared.pattern.Prop.{Prop}
 use Rattle.actx_tree.specs.declared.pattern.Elem.{Elem}
 use Rattle.actx_tree.specs.declared.pattern.Params.{Params}
-use Rattle.actx_grammar.specs.declared.kind.Kind.{Kind}
 use Rattle.actx_grammar.specs.declared.bracket.Bracket.{Bracket}
-use Rattle.actx_tree.specs.declared.expr.Expr.TheVariants as e
-use Rattle.actx_tree.specs.declared.expr.Argument.TheVariants as argument
-use Rattle.actx_tree.specs.declared.expr.Entry.TheVariants as entry
-use Rattle.actx_tree.specs.declared.expr.Key.TheVariants as key
-use Rattle.actx_tree.specs.declared.expr.Suffix.TheVariants as suffix
-use Rattle.actx_tree.specs.declared.function.Flow.TheVariants as flow
 use Rattle.actx_tree.specs.declared.pattern.Target.TheVariants as target
-use Rattle.actx_tree.specs.declared.pattern.Prop.TheVariants as prop
-use Rattle.actx_tree.specs.Parts.{piece_of, operand_of, function_of, method_of, class_of, member_of, elem_of, params_of}
+use Rattle.actx_tree.specs.Parts.{elem_of}
 use Rattle.actx_tree.specs.Levels.{highest, or_zero, expr_levels, piece_levels, argument_levels, entry_levels, key_levels, suffix_levels, operand_levels, function_levels, method_levels, class_levels, member_levels, target_levels, prop_levels, elem_levels, params_levels}
 use Rattle.actx_tree.proofs.LevelEquations as level
 use Rattle.actx_grammar.specs.Tokens.{Tokens}
-use Rattle.actx_grammar.specs.Grammar.{SpWord, word-name, word-reserved, SpName, name-some, name-none, SpLiteral, literal-word, literal-text, literal-number, SpRestName, rest_name-none, rest_name-some, SpUnread, unread, SpFunctionHead, head-plain, head-generator, head-async, SpMethodHead, method_head-plain, method_head-generator, method_head-async, SpTarget, target-name, target-object, target-object_rest, target-array, target-array_rest, SpProps, props-none, props-last, props-more, SpProp, prop-name, prop-pair, SpElems, elems-none, elems-last, elems-more, SpElem, elem, SpDefault, default-none, default-some, SpParams, params, SpRestTarget, rest-none, rest-some, SpFunction, function, SpMethod, method, SpClass, class-base, class-derived, SpMembers, members-none, members-semicolon, members-more, SpMember, member-static, member-plain, SpExpr, expr-one, expr-comma, SpCommas, commas-none, commas-more, SpAssign, assign-cond, assign-place, assign-yield, assign-yield_of, assign-arrow, assign-arrow_block, SpArrowHead, arrow_head-plain, arrow_head-async, SpArrowParams, arrow_params-name, arrow_params-list, SpCond, cond-one, cond-test, SpShort, short-or, short-coalesce, SpLevel, level-unary, level-one, level-chain, SpOperands, operands-none, operands-more, SpUnary, unary-op, unary-before, unary-after, unary-left, SpLeft, left-made, left-suffixes, SpMade, made-primary, made-new, made-new_bare, SpSuffixes, suffixes-none, suffixes-more, SpMemberSuffixes, member_suffixes-none, member_suffixes-more, SpSuffix, suffix-member, suffix-call, suffix-optional_name, suffix-optional_index, suffix-optional_call, SpMemberSuffix, member_suffix-name, member_suffix-index, SpIndex, index, SpArgs, args, SpArguments, arguments-none, arguments-last, arguments-more, SpArgument, argument-one, argument-spread, SpPrimary, primary-name, primary-number, primary-text, primary-true, primary-false, primary-null, primary-this, primary-template, primary-template_of, primary-brackets, primary-array, primary-object, primary-super_call, primary-super_member, primary-function, primary-class, SpPieces, pieces-last, pieces-more, SpEntries, entries-none, entries-last, entries-more, SpEntry, entry-spread, entry-name, entry-pair, entry-method, SpKey, key-literal, key-computed}
+use Rattle.actx_grammar.specs.Grammar.{SpLiteral, literal-word, literal-text, literal-number, SpTarget, target-name, target-object, target-object_rest, target-array, target-array_rest, SpProps, props-none, props-last, props-more, SpProp, prop-name, prop-pair, SpElems, elems-none, elems-last, elems-more, SpElem, elem, SpDefault, default-none, default-some, SpParams, params, SpRestTarget, rest-none, rest-some, SpFunction, function, SpMethod, method, SpClass, class-base, class-derived, SpMembers, members-none, members-semicolon, members-more, SpMember, member-static, member-plain, SpExpr, expr-one, expr-comma, SpCommas, commas-none, commas-more, SpAssign, assign-cond, assign-place, assign-yield, assign-yield_of, assign-arrow, assign-arrow_block, SpArrowHead, arrow_head-plain, arrow_head-async, SpArrowParams, arrow_params-name, arrow_params-list, SpCond, cond-one, cond-test, SpShort, short-or, short-coalesce, SpLevel, level-unary, level-one, level-chain, SpOperands, operands-none, operands-more, SpUnary, unary-op, unary-before, unary-after, unary-left, SpLeft, left-made, left-suffixes, SpMade, made-primary, made-new, made-new_bare, SpSuffixes, suffixes-none, suffixes-more, SpMemberSuffixes, member_suffixes-none, member_suffixes-more, SpSuffix, suffix-member, suffix-call, suffix-optional_name, suffix-optional_index, suffix-optional_call, SpMemberSuffix, member_suffix-name, member_suffix-index, SpIndex, index, SpArgs, args, SpArguments, arguments-none, arguments-last, arguments-more, SpArgument, argument-one, argument-spread, SpPrimary, primary-name, primary-number, primary-text, primary-true, primary-false, primary-null, primary-this, primary-template, primary-template_of, primary-brackets, primary-array, primary-object, primary-super_call, primary-super_member, primary-function, primary-class, SpPieces, pieces-last, pieces-more, SpEntries, entries-none, entries-last, entries-more, SpEntry, entry-spread, entry-name, entry-pair, entry-method, SpKey, key-literal, key-computed}
 
 levels-literal : {i0 : Key} {a b : Tokens} → SpLiteral i0 a b → key_levels i0 ≡ 0
 levels-literal (literal-word {u = u} p0) = let z0 = level.key_levels-Word u in omega arith

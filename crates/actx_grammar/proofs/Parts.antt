@@ -1,25 +1,21 @@
 -- Parts with no node in them are read as they are spelled.
-use Rattle.std.proofs.Common.{◌≡◌, ◌∙◌, ℕ, ℤ, zero, suc, ◌<◌, ◌≤◌, Bool, true, false, not, ◌&&◌, ◌||◌, if◌then◌else◌, List, [], ◌∷◌, length, Option, Some, None, Ok, Err, refl, sym, ap, subst, arith}
+use Rattle.std.proofs.Common.{◌≡◌, ℤ, Bool, true, false, ◌∷◌, length, Option, Some, None, Ok, refl, ap}
 use Rattle.actx_text.specs.declared.units.Units.{Units}
 use Rattle.actx_lex.specs.declared.token.Token.{Token}
-use Rattle.actx_lex.specs.declared.token.TokenKind.{TokenKind}
 use Rattle.actx_lex.specs.declared.token.TokenKind.TheVariants as k
 use Rattle.actx_lex.specs.declared.token.Punct.TheVariants as p
 use Rattle.actx_tree.specs.declared.expr.Key.{Key}
 use Rattle.actx_tree.specs.declared.function.Flow.{Flow}
-use Rattle.actx_tree.specs.declared.function.Flow.TheVariants as flow
 use Rattle.actx_tree.specs.declared.function.Unread.{Unread}
-use Rattle.actx_grammar.specs.declared.kind.Kind.{Kind}
 use Rattle.actx_grammar.specs.declared.kind.Kind.TheVariants as kind
-use Rattle.actx_grammar.specs.declared.word.Word.TheVariants as word
 use Rattle.actx_grammar.specs.declared.bracket.Bracket.{Bracket}
 use Rattle.actx_grammar.specs.declared.bracket.Bracket.TheVariants as bracket
-use Rattle.actx_grammar.specs.Kinds.{kind_of, closes, closing, is_dots, is_name, is_open_brace, is_function_word}
-use Rattle.actx_grammar.specs.Tokens.{Tokens, Is, next, behind, after_brackets, is_async_function, method_flow}
-use Rattle.actx_grammar.specs.Reader.{Outcome, and_then, count, expect, name, name_by, word, word_by, literal, literal_by, number, number_by, text, text_by, piece, piece_by, optional_name, rest_name, range_of, passed_to, inside, unread, star, function_head, after_flow, method_head}
+use Rattle.actx_grammar.specs.Kinds.{kind_of, closes, is_dots, is_name, is_open_brace, is_function_word}
+use Rattle.actx_grammar.specs.Tokens.{Tokens, next, behind, after_brackets}
+use Rattle.actx_grammar.specs.Reader.{and_then, count, name, name_by, word, word_by, literal, literal_by, number, number_by, text, text_by, piece, piece_by, optional_name, rest_name, passed_to, inside, unread, star, function_head, method_head}
 use Rattle.actx_grammar.specs.Grammar.{SpWord, word-name, word-reserved, SpName, name-some, name-none, SpLiteral, literal-word, literal-text, literal-number, SpRestName, rest_name-none, rest_name-some, SpUnread, unread as unread-range, SpFunctionHead, head-plain, head-generator, head-async, SpMethodHead, method_head-plain, method_head-generator, method_head-async}
 use Rattle.actx_grammar.proofs.Firsts.{not_async_function}
-use Rattle.actx_grammar.proofs.Gets.{expected, closes_closing, closed, next_of}
+use Rattle.actx_grammar.proofs.Gets.{expected, closes_closing, closed}
 
 pub name_is : (t : Token) (ts : Tokens) {u : Units} → t.kind ≡ k.Name u → name (t ∷ ts) ≡ Ok (u, ts)
 unfolding name

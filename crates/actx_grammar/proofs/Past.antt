@@ -1,5 +1,5 @@
 -- What is left behind a spelling: a proper end of the tokens, or an end of them where the spelling may be empty.
-use Rattle.std.proofs.Common.{◌≡◌, ℕ, zero, suc, ◌+◌, ◌-◌, ◌<◌, ◌≤◌, List, [], ◌∷◌, length, drop, Option, Some, None, refl, sym, ap, ◌∙◌, subst, arith}
+use Rattle.std.proofs.Common.{◌≡◌, ℕ, zero, suc, ◌+◌, ◌<◌, ◌≤◌, [], ◌∷◌, length, drop, Option, Some, None, refl, subst, arith}
 use Rattle.actx_lex.specs.declared.token.Token.{Token}
 use Rattle.actx_grammar.specs.Kinds.{kind_of}
 use Rattle.actx_grammar.specs.declared.bracket.Bracket.{Bracket}

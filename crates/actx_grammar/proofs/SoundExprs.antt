@@ -1,5 +1,5 @@
 -- Operators, assignments, arrows and Expr that are read are spelled.
-use Rattle.std.proofs.Common.{◌≡◌, ◌∙◌, ℕ, ℤ, zero, suc, ◌+◌, ◌<◌, ◌≤◌, ◌==◌, nat_lt, max, Bool, true, false, not, ◌&&◌, ◌||◌, if◌then◌else◌, List, [], ◌∷◌, ◌++◌, length, Option, Some, None, is_some, Ok, Err, refl, sym, ap, subst, arith, append_assoc, append-nil, eq-eqb}
+use Rattle.std.proofs.Common.{◌≡◌, ◌∙◌, ℕ, zero, suc, ◌≤◌, ◌==◌, nat_lt, max, Bool, true, false, not, ◌&&◌, if◌then◌else◌, List, [], ◌∷◌, Option, Some, None, refl, sym, ap, subst, arith}
 use Rattle.actx_text.specs.declared.units.Units.{Units}
 use Rattle.actx_lex.specs.declared.token.Token.{Token}
 use Rattle.actx_lex.specs.declared.token.TokenKind.TheVariants as k
@@ -10,48 +10,29 @@ use Rattle.actx_tree.specs.declared.operator.StepOp.{StepOp}
 use Rattle.actx_tree.specs.declared.operator.AssignOp.{AssignOp}
 use Rattle.actx_tree.specs.declared.expr.Expr.{Expr, the_lemmas}
 use Rattle.actx_tree.specs.declared.expr.Expr.TheVariants as e
-use Rattle.actx_tree.specs.declared.expr.Piece.{Piece}
-use Rattle.actx_tree.specs.declared.expr.Argument.{Argument}
-use Rattle.actx_tree.specs.declared.expr.Argument.TheVariants as an_argument
-use Rattle.actx_tree.specs.declared.expr.Entry.{Entry}
-use Rattle.actx_tree.specs.declared.expr.Entry.TheVariants as an_entry
-use Rattle.actx_tree.specs.declared.expr.Key.{Key}
-use Rattle.actx_tree.specs.declared.expr.Suffix.{Suffix}
-use Rattle.actx_tree.specs.declared.expr.Suffix.TheVariants as a_suffix
 use Rattle.actx_tree.specs.declared.expr.Operand.{Operand}
-use Rattle.actx_tree.specs.declared.function.Flow.{Flow}
-use Rattle.actx_tree.specs.declared.function.Flow.TheVariants as flow
-use Rattle.actx_tree.specs.declared.function.Function.{Function}
-use Rattle.actx_tree.specs.declared.function.Method.{Method}
-use Rattle.actx_tree.specs.declared.function.Class.{Class}
-use Rattle.actx_tree.specs.declared.pattern.Target.{Target}
 use Rattle.actx_tree.specs.declared.pattern.Params.{Params}
-use Rattle.actx_tree.specs.Parts.{piece_of, operand_of, elem_of, params_of}
+use Rattle.actx_tree.specs.Parts.{operand_of, elem_of, params_of}
 use Rattle.actx_grammar.specs.declared.error.Cause.TheVariants.{NoTree, TooNested}
 use Rattle.actx_grammar.specs.declared.kind.Kind.{Kind}
 use Rattle.actx_grammar.specs.declared.kind.Kind.TheVariants as kind
-use Rattle.actx_grammar.specs.declared.word.Word.TheVariants as word
-use Rattle.actx_grammar.specs.declared.bracket.Bracket.{Bracket}
-use Rattle.actx_grammar.specs.declared.bracket.Bracket.TheVariants as bracket
-use Rattle.actx_grammar.specs.declared.line.Line.{Line}
-use Rattle.actx_grammar.specs.declared.line.Line.TheVariants as line
 use Rattle.actx_tree.specs.declared.pattern.Target.TheVariants as a_target
 use Rattle.std.proofs.lemmas.Bool.{cases_lt}
 use Rattle.std.proofs.Common.{inl, inr}
 use Rattle.std.proofs.lemmas.Bool.Decides.{nat_tests}
 use Rattle.actx_tree.specs.declared.function.Unread.{Unread}
-use Rattle.actx_grammar.specs.Kinds.{kind_of, closes, is_comma, is_colon, is_question, is_name, is_open_brace, is_arrow_sign, is_yield_word, binary_op, level_of, unary_op, step_op, assign_op}
+use Rattle.actx_grammar.specs.Kinds.{kind_of, is_comma, is_colon, is_question, is_name, is_open_brace, is_arrow_sign, is_yield_word, binary_op, level_of, unary_op, step_op, assign_op}
 use Rattle.actx_grammar.specs.Tokens.{Tokens, Is, next, behind, is_on_line, is_async, is_async_word, has_arrow, arrow_start, has_operand}
 use Rattle.actx_grammar.specs.Places.{is_place, is_logical}
-use Rattle.actx_grammar.specs.Reader.{Outcome, Parser, Read, Inner, and_then, count}
-use Rattle.actx_grammar.specs.Patterns.{target_by, pattern, begins_pattern}
+use Rattle.actx_grammar.specs.Reader.{Read, Inner, and_then, count}
+use Rattle.actx_grammar.specs.Patterns.{target_by, begins_pattern}
 use Rattle.actx_grammar.specs.Lines as r
 use Rattle.actx_grammar.specs.Lines.{below, line_of, sunk}
-use Rattle.actx_grammar.specs.Grammar.{SpTarget, target-name, SpParams, SpUnread, SpExpr, expr-one, expr-comma, SpCommas, commas-none, commas-more, SpAssign, assign-cond, assign-place, assign-yield, assign-yield_of, assign-arrow, assign-arrow_block, SpArrowHead, arrow_head-plain, arrow_head-async, SpArrowParams, arrow_params-name, arrow_params-list, SpCond, cond-one, cond-test, SpShort, short-or, short-coalesce, SpLevel, level-unary, level-one, level-chain, SpOperands, operands-none, operands-more, SpUnary, unary-op, unary-before, unary-after, unary-left, SpLeft}
+use Rattle.actx_grammar.specs.Grammar.{SpTarget, target-name, SpUnread, SpExpr, expr-one, expr-comma, SpCommas, commas-none, commas-more, SpAssign, assign-cond, assign-place, assign-yield, assign-yield_of, assign-arrow, assign-arrow_block, SpArrowHead, arrow_head-plain, arrow_head-async, SpArrowParams, arrow_params-name, arrow_params-list, SpCond, cond-one, cond-test, SpShort, short-or, short-coalesce, SpLevel, level-unary, level-one, level-chain, SpOperands, operands-none, operands-more, SpUnary, unary-op, unary-before, unary-after, unary-left, SpLeft}
 use Rattle.actx_grammar.proofs.Firsts.{both_first, both_second}
 use Rattle.actx_grammar.proofs.Tests as is
 use Rattle.actx_grammar.proofs.GetExprs.{chain_logical}
-use Rattle.actx_grammar.proofs.Holds.{Holds, done, fails, step, bind, branch, map, along, fit, Low, Taken, taken, taken_if, sound-expect, Star, star-none, star-more, ListedSome, sound-some}
+use Rattle.actx_grammar.proofs.Holds.{Holds, done, fails, step, bind, branch, map, fit, Low, Taken, taken, taken_if, sound-expect, Star, star-none, star-more, ListedSome, sound-some}
 use Rattle.actx_grammar.proofs.SoundParts.{Token_of, token_of, sound-name, sound-unread}
 use Rattle.actx_grammar.proofs.Sounds.{Sounds}
 use Rattle.actx_grammar.proofs.SoundPatterns.{sound-target, sound-params}

@@ -1,14 +1,10 @@
 -- Primaries, new and what follows them that are read are spelled.
-use Rattle.std.proofs.Common.{◌≡◌, ◌∙◌, ℕ, ℤ, zero, suc, ◌+◌, ◌<◌, ◌≤◌, ◌==◌, max, Bool, true, false, not, ◌&&◌, ◌||◌, if◌then◌else◌, List, [], ◌∷◌, ◌++◌, length, Option, Some, None, is_some, Ok, Err, refl, sym, ap, subst, arith, append_assoc, append-nil, eq-eqb}
+use Rattle.std.proofs.Common.{◌≡◌, ◌∙◌, ℕ, ℤ, zero, suc, ◌≤◌, max, Bool, true, false, ◌&&◌, List, [], ◌∷◌, ◌++◌, Some, None, Ok, refl, sym, ap, subst, arith, append_assoc}
 use Rattle.actx_text.specs.declared.units.Units.{Units}
 use Rattle.actx_lex.specs.declared.token.Token.{Token}
 use Rattle.actx_lex.specs.declared.token.TokenKind.TheVariants as k
 use Rattle.actx_lex.specs.declared.token.Punct.TheVariants as p
-use Rattle.actx_tree.specs.declared.operator.BinaryOp.{BinaryOp}
-use Rattle.actx_tree.specs.declared.operator.UnaryOp.{UnaryOp}
-use Rattle.actx_tree.specs.declared.operator.StepOp.{StepOp}
-use Rattle.actx_tree.specs.declared.operator.AssignOp.{AssignOp}
-use Rattle.actx_tree.specs.declared.expr.Expr.{Expr, the_lemmas}
+use Rattle.actx_tree.specs.declared.expr.Expr.{Expr}
 use Rattle.actx_tree.specs.declared.expr.Expr.TheVariants as e
 use Rattle.actx_tree.specs.declared.expr.Piece.{Piece}
 use Rattle.actx_tree.specs.declared.expr.Argument.{Argument}
@@ -18,34 +14,26 @@ use Rattle.actx_tree.specs.declared.expr.Entry.TheVariants as an_entry
 use Rattle.actx_tree.specs.declared.expr.Key.{Key}
 use Rattle.actx_tree.specs.declared.expr.Suffix.{Suffix}
 use Rattle.actx_tree.specs.declared.expr.Suffix.TheVariants as a_suffix
-use Rattle.actx_tree.specs.declared.expr.Operand.{Operand}
 use Rattle.actx_tree.specs.declared.function.Flow.{Flow}
 use Rattle.actx_tree.specs.declared.function.Flow.TheVariants as flow
-use Rattle.actx_tree.specs.declared.function.Function.{Function}
-use Rattle.actx_tree.specs.declared.function.Method.{Method}
-use Rattle.actx_tree.specs.declared.function.Class.{Class}
-use Rattle.actx_tree.specs.declared.pattern.Target.{Target}
-use Rattle.actx_tree.specs.declared.pattern.Params.{Params}
-use Rattle.actx_tree.specs.Parts.{piece_of, operand_of, elem_of, params_of}
-use Rattle.actx_grammar.specs.declared.error.Cause.TheVariants.{NoTree, TooNested}
+use Rattle.actx_tree.specs.Parts.{piece_of}
+use Rattle.actx_grammar.specs.declared.error.Cause.TheVariants.{NoTree}
 use Rattle.actx_grammar.specs.declared.kind.Kind.{Kind}
 use Rattle.actx_grammar.specs.declared.kind.Kind.TheVariants as kind
 use Rattle.actx_grammar.specs.declared.word.Word.TheVariants as word
 use Rattle.actx_grammar.specs.declared.bracket.Bracket.{Bracket}
 use Rattle.actx_grammar.specs.declared.bracket.Bracket.TheVariants as bracket
-use Rattle.actx_grammar.specs.declared.line.Line.{Line}
-use Rattle.actx_grammar.specs.declared.line.Line.TheVariants as line
-use Rattle.actx_grammar.specs.Kinds.{kind_of, closes, closing, is_comma, is_colon, is_dots, is_name, is_open_parenthesis, is_open_bracket, is_open_brace, is_new_word, begins_suffix, begins_member}
-use Rattle.actx_grammar.specs.Tokens.{Tokens, Is, next, behind, is_async_function, is_shorthand, method_flow}
+use Rattle.actx_grammar.specs.Kinds.{kind_of, closes, is_colon, is_dots, is_open_parenthesis, is_open_bracket, is_new_word, begins_suffix}
+use Rattle.actx_grammar.specs.Tokens.{Tokens, Is, next, behind, is_async_function, is_shorthand}
 use Rattle.actx_grammar.specs.Reader.{Outcome, Parser, Read, Inner, and_then, count, method_head, after_flow}
 use Rattle.actx_grammar.specs.Lines as r
-use Rattle.actx_grammar.specs.Grammar.{SpWord, SpMethodHead, method_head-plain, method_head-generator, method_head-async, SpMethod, SpFunction, SpClass, SpExpr, SpAssign, SpLeft, left-made, left-suffixes, SpMade, made-primary, made-new, made-new_bare, SpSuffixes, suffixes-none, suffixes-more, SpMemberSuffixes, member_suffixes-none, member_suffixes-more, SpSuffix, suffix-member, suffix-call, suffix-optional_name, suffix-optional_index, suffix-optional_call, SpMemberSuffix, member_suffix-name, member_suffix-index, SpIndex, index, SpArgs, args, SpArguments, arguments-none, arguments-last, arguments-more, SpArgument, argument-one, argument-spread, SpPrimary, primary-name, primary-number, primary-text, primary-true, primary-false, primary-null, primary-this, primary-template, primary-template_of, primary-brackets, primary-array, primary-object, primary-super_call, primary-super_member, primary-function, primary-class, SpPieces, pieces-last, pieces-more, SpEntries, entries-none, entries-last, entries-more, SpEntry, entry-spread, entry-name, entry-pair, entry-method, SpKey}
+use Rattle.actx_grammar.specs.Grammar.{SpMethodHead, method_head-plain, method_head-generator, method_head-async, SpExpr, SpAssign, SpLeft, left-made, left-suffixes, SpMade, made-primary, made-new, made-new_bare, SpSuffixes, suffixes-none, suffixes-more, SpMemberSuffixes, member_suffixes-none, member_suffixes-more, SpSuffix, suffix-member, suffix-call, suffix-optional_name, suffix-optional_index, suffix-optional_call, SpMemberSuffix, member_suffix-name, member_suffix-index, SpIndex, index, SpArgs, args, SpArguments, arguments-none, arguments-last, arguments-more, SpArgument, argument-one, argument-spread, SpPrimary, primary-name, primary-number, primary-text, primary-true, primary-false, primary-null, primary-this, primary-template, primary-template_of, primary-brackets, primary-array, primary-object, primary-super_call, primary-super_member, primary-function, primary-class, SpPieces, pieces-last, pieces-more, SpEntries, entries-none, entries-last, entries-more, SpEntry, entry-spread, entry-name, entry-pair, entry-method, SpKey}
 use Rattle.actx_grammar.proofs.Firsts.{both_first, both_second}
 use Rattle.actx_grammar.proofs.Tests as is
-use Rattle.actx_grammar.proofs.Holds.{Holds, done, fails, step, bind, branch, map, along, fit, Low, Taken, taken, taken_if, sound-expect, Star, star-none, star-more, Listed, ListedSome, sound-many, sound-some, RowOf, row_of-none, row_of-last, row_of-more, LowRow, sound-rows}
+use Rattle.actx_grammar.proofs.Holds.{Holds, done, fails, step, bind, branch, map, fit, Low, Taken, taken, taken_if, sound-expect, Star, star-none, star-more, Listed, ListedSome, sound-many, sound-some, RowOf, row_of-none, row_of-last, row_of-more, sound-rows}
 use Rattle.actx_grammar.proofs.SoundParts.{Token_of, token_of, sound-name, sound-number, sound-text, sound-piece, sound-word, sound-method_head}
 use Rattle.actx_grammar.proofs.Sounds.{Sounds}
-use Rattle.actx_grammar.proofs.SoundPatterns.{sound-params, sound-function, sound-class, sound-key, sound-method_tail, Tail}
+use Rattle.actx_grammar.proofs.SoundPatterns.{sound-function, sound-class, sound-key, sound-method_tail}
 
 -- ---- the lines of the grammar from their parts
 

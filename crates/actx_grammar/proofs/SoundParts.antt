@@ -1,26 +1,23 @@
 -- Parts with no node in them that are read are spelled.
-use Rattle.std.proofs.Common.{◌≡◌, ◌∙◌, ℕ, ℤ, zero, suc, ◌≤◌, Bool, true, false, not, ◌&&◌, if◌then◌else◌, List, [], ◌∷◌, length, Option, Some, None, Ok, Err, refl, sym, ap, subst}
+use Rattle.std.proofs.Common.{◌≡◌, Bool, true, false, ◌&&◌, [], ◌∷◌, length, Option, Some, None, refl}
 use Rattle.actx_text.specs.declared.units.Units.{Units}
 use Rattle.actx_lex.specs.declared.token.Token.{Token}
 use Rattle.actx_lex.specs.declared.token.TokenKind.{TokenKind}
 use Rattle.actx_lex.specs.declared.token.TokenKind.TheVariants as k
-use Rattle.actx_lex.specs.declared.token.Punct.TheVariants as p
-use Rattle.actx_tree.specs.declared.expr.Key.{Key}
 use Rattle.actx_tree.specs.declared.function.Flow.{Flow}
 use Rattle.actx_tree.specs.declared.function.Flow.TheVariants as flow
 use Rattle.actx_tree.specs.declared.function.Unread.{Unread}
 use Rattle.actx_grammar.specs.declared.error.Cause.TheVariants.{NoTree}
-use Rattle.actx_grammar.specs.declared.kind.Kind.{Kind}
 use Rattle.actx_grammar.specs.declared.kind.Kind.TheVariants as kind
 use Rattle.actx_grammar.specs.declared.bracket.Bracket.{Bracket}
 use Rattle.actx_grammar.specs.declared.bracket.Bracket.TheVariants as bracket
-use Rattle.actx_grammar.specs.Kinds.{kind_of, closes, closing, is_dots, is_name, is_star, is_open_brace, is_function_word}
-use Rattle.actx_grammar.specs.Tokens.{Tokens, Is, next, behind, is_async, is_async_word, is_on_line, after_brackets, is_async_function, method_flow}
+use Rattle.actx_grammar.specs.Kinds.{kind_of, closes, is_dots, is_name, is_star, is_open_brace, is_function_word}
+use Rattle.actx_grammar.specs.Tokens.{Tokens, next, behind, is_async, is_async_word, is_on_line, after_brackets, is_async_function, method_flow}
 use Rattle.actx_grammar.specs.Reader as r
 use Rattle.actx_grammar.specs.Grammar.{SpWord, word-name, word-reserved, SpName, name-some, name-none, SpLiteral, literal-word, literal-text, literal-number, SpRestName, rest_name-none, rest_name-some, SpUnread, unread, SpFunctionHead, head-plain, head-generator, head-async, SpMethodHead, method_head-plain, method_head-generator, method_head-async}
 use Rattle.actx_grammar.proofs.Tests as is
 use Rattle.actx_grammar.proofs.Firsts.{both_first, both_second}
-use Rattle.actx_grammar.proofs.Holds.{Holds, done, fails, step, bind, branch, map, along, Taken, taken, taken_if, sound-expect}
+use Rattle.actx_grammar.proofs.Holds.{Holds, done, fails, bind, branch, map, Taken, taken, taken_if, sound-expect}
 
 -- a token with this payload, and what stands behind it
 pub data Token_of (s : TokenKind) : Tokens → Tokens → Type 0 where

@@ -1,5 +1,5 @@
 -- Patterns, parameters, functions, methods and classes that are read are spelled.
-use Rattle.std.proofs.Common.{◌≡◌, ◌∙◌, ℕ, zero, suc, ◌+◌, ◌<◌, ◌≤◌, max, Bool, true, false, ◌||◌, if◌then◌else◌, List, [], ◌∷◌, ◌++◌, length, Option, Some, None, Ok, Err, refl, sym, ap, subst, arith, append_assoc, append-nil}
+use Rattle.std.proofs.Common.{◌≡◌, ◌∙◌, ℕ, zero, suc, ◌≤◌, max, Bool, true, false, List, [], ◌∷◌, ◌++◌, Option, Some, None, refl, sym, subst, arith, append_assoc, append-nil}
 use Rattle.actx_text.specs.declared.units.Units.{Units}
 use Rattle.actx_lex.specs.declared.token.Token.{Token}
 use Rattle.actx_lex.specs.declared.token.TokenKind.TheVariants as k
@@ -9,9 +9,7 @@ use Rattle.actx_tree.specs.declared.expr.Key.{Key}
 use Rattle.actx_tree.specs.declared.expr.Key.TheVariants as a_key
 use Rattle.actx_tree.specs.declared.function.Flow.{Flow}
 use Rattle.actx_tree.specs.declared.function.Unread.{Unread}
-use Rattle.actx_tree.specs.declared.function.Function.{Function}
 use Rattle.actx_tree.specs.declared.function.Method.{Method}
-use Rattle.actx_tree.specs.declared.function.Class.{Class}
 use Rattle.actx_tree.specs.declared.function.Member.{Member}
 use Rattle.actx_tree.specs.declared.pattern.Target.{Target}
 use Rattle.actx_tree.specs.declared.pattern.Target.TheVariants as a_target
@@ -19,24 +17,23 @@ use Rattle.actx_tree.specs.declared.pattern.Prop.{Prop}
 use Rattle.actx_tree.specs.declared.pattern.Prop.TheVariants as a_prop
 use Rattle.actx_tree.specs.declared.pattern.Elem.{Elem}
 use Rattle.actx_tree.specs.declared.pattern.Params.{Params}
-use Rattle.actx_tree.specs.Parts.{function_of, method_of, class_of, member_of, elem_of, params_of}
-use Rattle.actx_grammar.specs.declared.error.Cause.TheVariants.{NoTree, TooNested}
+use Rattle.actx_tree.specs.Parts.{method_of, class_of, member_of, params_of}
+use Rattle.actx_grammar.specs.declared.error.Cause.TheVariants.{NoTree}
 use Rattle.actx_grammar.specs.declared.kind.Kind.{Kind}
 use Rattle.actx_grammar.specs.declared.kind.Kind.TheVariants as kind
 use Rattle.actx_grammar.specs.declared.bracket.Bracket.{Bracket}
 use Rattle.actx_grammar.specs.declared.bracket.Bracket.TheVariants as bracket
-use Rattle.actx_grammar.specs.declared.line.Line.TheVariants as line
-use Rattle.actx_grammar.specs.Kinds.{kind_of, closes, closing, is_comma, is_colon, is_equals, is_dots, is_name, is_open_parenthesis, is_open_bracket, is_open_brace, is_class_word, is_extends_word, is_semicolon}
+use Rattle.actx_grammar.specs.Kinds.{kind_of, closes, closing, is_colon, is_equals, is_dots, is_name, is_open_parenthesis, is_open_bracket, is_open_brace, is_class_word, is_extends_word, is_semicolon}
 use Rattle.actx_grammar.specs.Tokens.{Tokens, Is, next, behind, is_static}
 use Rattle.actx_grammar.specs.Places.{is_plain_key, has_plain_key}
-use Rattle.actx_grammar.specs.Reader.{Outcome, Parser, Read, Inner, and_then, count}
+use Rattle.actx_grammar.specs.Reader.{Read, Inner, count}
 use Rattle.actx_grammar.specs.Patterns as r
 use Rattle.actx_grammar.specs.Patterns.{ends_elems, begins_pattern}
-use Rattle.actx_grammar.specs.Grammar.{SpLiteral, SpRestName, SpName, SpUnread, SpFunctionHead, SpMethodHead, SpAssign, SpLeft, SpTarget, target-name, target-object, target-object_rest, target-array, target-array_rest, SpProps, props-none, props-last, props-more, SpProp, prop-name, prop-pair, SpElems, elems-none, elems-last, elems-more, SpElem, elem, SpDefault, default-none, default-some, SpParams, params, SpRestTarget, rest-none, rest-some, SpFunction, function, SpMethod, method, SpClass, class-base, class-derived, SpMembers, members-none, members-semicolon, members-more, SpMember, member-static, member-plain, SpKey, key-literal, key-computed}
+use Rattle.actx_grammar.specs.Grammar.{SpLiteral, SpRestName, SpName, SpMethodHead, SpAssign, SpLeft, SpTarget, target-name, target-object, target-object_rest, target-array, target-array_rest, SpProps, props-none, props-last, props-more, SpProp, prop-name, prop-pair, SpElems, elems-none, elems-last, elems-more, SpElem, elem, SpDefault, default-none, default-some, SpParams, params, SpRestTarget, rest-none, rest-some, SpFunction, function, SpMethod, method, SpClass, class-base, class-derived, SpMembers, members-none, members-semicolon, members-more, SpMember, member-static, member-plain, SpKey, key-literal, key-computed}
 use Rattle.actx_grammar.proofs.Firsts.{behind-literal}
 use Rattle.actx_grammar.proofs.Tests as is
-use Rattle.actx_grammar.proofs.Holds.{Holds, done, fails, step, bind, branch, map, along, fit, Low, Taken, taken, taken_if, sound-expect, RowOf, row_of-none, row_of-last, row_of-more, LowRow, sound-rows}
-use Rattle.actx_grammar.proofs.SoundParts.{Token_of, token_of, no_end_closes, sound-name, sound-literal, sound-optional_name, sound-rest_name, sound-unread, sound-function_head, sound-method_head}
+use Rattle.actx_grammar.proofs.Holds.{Holds, done, fails, step, bind, branch, map, fit, Low, Taken, taken, taken_if, sound-expect, RowOf, row_of-none, row_of-last, row_of-more, sound-rows}
+use Rattle.actx_grammar.proofs.SoundParts.{Token_of, token_of, sound-name, sound-literal, sound-optional_name, sound-rest_name, sound-unread, sound-function_head, sound-method_head}
 use Rattle.actx_grammar.proofs.Sounds.{Sounds}
 
 -- ---- the lines of the grammar from their parts

@@ -1,5 +1,5 @@
 -- The token that a test is about.
-use Rattle.std.proofs.Common.{◌≡◌, ◌∙◌, Bool, true, false, refl, ap}
+use Rattle.std.proofs.Common.{◌≡◌, true, refl}
 use Rattle.actx_lex.specs.declared.token.Punct.TheVariants as p
 use Rattle.actx_grammar.specs.declared.kind.Kind.{Kind}
 use Rattle.actx_grammar.specs.declared.kind.Kind.TheVariants as kind

@@ -1,5 +1,5 @@
 -- What a public call says follows from what it reads.
-use Rattle.std.proofs.Common.{◌≡◌, ℕ, zero, suc, ◌+◌, ◌-◌, ◌<◌, ◌≤◌, Bool, true, false, List, length, drop, Ok, Err, IfOk, Result, refl, sym, ap, ◌∙◌, subst, arith}
+use Rattle.std.proofs.Common.{◌≡◌, ℕ, ◌+◌, ◌-◌, ◌<◌, ◌≤◌, Bool, true, length, drop, Ok, Err, IfOk, Result, refl, subst, arith}
 use Rattle.actx_tree.specs.declared.expr.Expr.{Expr}
 use Rattle.actx_tree.specs.declared.pattern.Target.{Target}
 use Rattle.actx_tree.specs.declared.pattern.Params.{Params}
@@ -7,24 +7,23 @@ use Rattle.actx_grammar.specs.declared.error.ParseError.{ParseError}
 use Rattle.actx_grammar.specs.declared.error.ParseError.TheVariants.{NoTree, TooNested, Memory}
 use Rattle.actx_grammar.specs.declared.line.Line.{Line}
 use Rattle.actx_grammar.specs.declared.line.Line.TheVariants as line
-use Rattle.actx_grammar.specs.Tokens.{Tokens, ends_expression, ends_assign, ends_left, next}
-use Rattle.actx_grammar.specs.Kinds.{is_open_brace}
+use Rattle.actx_grammar.specs.Tokens.{Tokens, ends_expression, ends_assign, ends_left}
 use Rattle.actx_grammar.specs.Reader.{Outcome, Read}
 use Rattle.actx_grammar.specs.Patterns as patterns
 use Rattle.actx_grammar.specs.Lines.{below}
 use Rattle.actx_grammar.specs.Given.{ended, Gives, OnNoTree, OnTooNested, Answers}
 use Rattle.actx_grammar.specs.Laws.{OneExpression, OneAssign, OneLeft, OneTarget, OneParams}
-use Rattle.actx_grammar.specs.Grammar.{SpExpr, SpAssign, SpLeft, SpMade, SpLevel, SpUnary, SpTarget, SpParams}
-use Rattle.actx_grammar.proofs.Past.{Ends, some, not_longer}
+use Rattle.actx_grammar.specs.Grammar.{SpExpr, SpAssign, SpLeft, SpTarget, SpParams}
+use Rattle.actx_grammar.proofs.Past.{Ends, some}
 use Rattle.actx_grammar.proofs.PastLines.{past-expr, past-assign, past-unary, past-level, past-left, past-made, past-target, past-params}
-use Rattle.actx_grammar.proofs.Following.{after, after_end, after_assign_end, after_left}
+use Rattle.actx_grammar.proofs.Following.{after_end, after_assign_end, after_left}
 use Rattle.actx_grammar.proofs.Gets.{Gets, got, deep}
 use Rattle.actx_grammar.proofs.GetPatterns.{get-params}
 use Rattle.actx_grammar.proofs.SoundPatterns.{sound-params}
 use Rattle.actx_grammar.proofs.SoundExprs.{sounds}
 use Rattle.actx_grammar.proofs.Complete.{completes, room_is}
 use Rattle.actx_grammar.proofs.Holds.{Holds, Low}
-use Rattle.actx_grammar.proofs.Answering.{given_one, none_given, sunk_given, gets_ended, ended_ok, place, behind_from}
+use Rattle.actx_grammar.proofs.Answering.{given_one, none_given, sunk_given, gets_ended, ended_ok}
 
 -- a reader of a line, exact on both sides
 pub record Reading {A : Type 0} (S : A → ℕ → Tokens → Tokens → Type 0) (test : Tokens → Bool) (o : ℕ → Tokens → Outcome (Read A)) : Type 0 where

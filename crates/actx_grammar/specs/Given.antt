@@ -1,6 +1,5 @@
 -- What the public calls give.
-use Rattle.std.specs.Prelude.{◌≡◌, ◌≢◌, ℕ, ◌+◌, ◌<◌, ◌≤◌, Bool, true, if◌then◌else◌, List, length, drop, Result, Ok, Err}
-use Rattle.actx_lex.specs.declared.token.Token.{Token}
+use Rattle.std.specs.Prelude.{◌≡◌, ℕ, ◌≤◌, Bool, if◌then◌else◌, length, drop, Result, Ok, Err}
 use Rattle.actx_grammar.specs.declared.error.Cause.{Cause}
 use Rattle.actx_grammar.specs.declared.error.Cause.TheVariants as cause
 use Rattle.actx_grammar.specs.declared.error.ParseError.{ParseError}

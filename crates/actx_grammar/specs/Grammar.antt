@@ -3,7 +3,7 @@
 --
 -- `SpX x h a b` says that the tokens a are a spelling of x by the line X and then the tokens b, and that x has h levels
 -- of nodes: a node with no node in it has 1, any other one more than the greatest of those right in it, a list with none 0.
-use Rattle.std.specs.Prelude.{◌≡◌, ℕ, ℤ, zero, suc, max, Bool, true, false, List, [], ◌∷◌, length, Option, Some, None}
+use Rattle.std.specs.Prelude.{◌≡◌, ℕ, ℤ, suc, max, Bool, true, false, List, [], ◌∷◌, length, Option, Some, None}
 use Rattle.actx_text.specs.declared.units.Units.{Units}
 use Rattle.actx_lex.specs.declared.token.Token.{Token}
 use Rattle.actx_lex.specs.declared.token.TokenKind.TheVariants as k
@@ -38,7 +38,6 @@ use Rattle.actx_tree.specs.declared.pattern.Prop.TheVariants as prop
 use Rattle.actx_tree.specs.declared.pattern.Elem.{Elem}
 use Rattle.actx_tree.specs.declared.pattern.Params.{Params}
 use Rattle.actx_tree.specs.Parts.{piece_of, operand_of, function_of, method_of, class_of, member_of, elem_of, params_of}
-use Rattle.actx_grammar.specs.declared.kind.Kind.{Kind}
 use Rattle.actx_grammar.specs.declared.kind.Kind.TheVariants as kind
 use Rattle.actx_grammar.specs.declared.word.Word.TheVariants as word
 use Rattle.actx_grammar.specs.declared.bracket.Bracket.{Bracket}

@@ -2,7 +2,6 @@
 use Rattle.std.specs.Prelude.{ℕ, Bool, true, false, ◌||◌, Option, Some, None, is_some}
 use Rattle.actx_lex.specs.declared.token.TokenKind.{TokenKind}
 use Rattle.actx_lex.specs.declared.token.TokenKind.TheVariants as k
-use Rattle.actx_lex.specs.declared.token.Punct.{Punct}
 use Rattle.actx_lex.specs.declared.token.Punct.TheVariants as p
 use Rattle.actx_tree.specs.declared.operator.BinaryOp.{BinaryOp}
 use Rattle.actx_tree.specs.declared.operator.BinaryOp.TheVariants as binary

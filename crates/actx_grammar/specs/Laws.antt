@@ -3,9 +3,7 @@ use Rattle.std.specs.Prelude.{◌≡◌, ℕ, ◌+◌, ◌*◌, ◌≤◌, true,
 use Rattle.actx_tree.specs.declared.expr.Expr.{Expr}
 use Rattle.actx_tree.specs.declared.pattern.Target.{Target}
 use Rattle.actx_tree.specs.declared.pattern.Params.{Params}
-use Rattle.actx_tree.specs.Levels.{expr_levels, target_levels, params_levels}
-use Rattle.actx_tree.specs.Sizes.{expr_size, target_size, params_size}
-use Rattle.actx_tree.specs.Bodies.{Found, expr_bodies, target_bodies, params_bodies}
+use Rattle.actx_tree.specs.Bodies.{Found}
 use Rattle.actx_grammar.specs.Weights.{weight, reach}
 use Rattle.actx_grammar.specs.Tokens.{Tokens, ends_expression, ends_assign, ends_left}
 use Rattle.actx_grammar.specs.Grammar.{SpExpr, SpAssign, SpLeft, SpTarget, SpParams}

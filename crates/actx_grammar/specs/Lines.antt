@@ -1,6 +1,5 @@
 -- Reading of expressions.
-use Rattle.std.specs.Prelude.{ℕ, ℤ, zero, suc, max, Bool, true, false, not, ◌&&◌, ◌||◌, ◌==◌, nat_le, if◌then◌else◌, List, [], ◌∷◌, ◌++◌, Option, Some, None, is_some, Ok, Err}
-use Rattle.actx_text.specs.declared.units.Units.{Units}
+use Rattle.std.specs.Prelude.{ℕ, zero, suc, max, Bool, true, false, ◌&&◌, ◌==◌, if◌then◌else◌, List, [], ◌∷◌, ◌++◌, Option, Some, None, is_some, Ok, Err}
 use Rattle.actx_lex.specs.declared.token.Punct.TheVariants as p
 use Rattle.actx_tree.specs.declared.operator.BinaryOp.{BinaryOp}
 use Rattle.actx_tree.specs.declared.operator.UnaryOp.{UnaryOp}
@@ -19,7 +18,6 @@ use Rattle.actx_tree.specs.declared.expr.Suffix.TheVariants as a_suffix
 use Rattle.actx_tree.specs.declared.expr.Operand.{Operand}
 use Rattle.actx_tree.specs.declared.function.Flow.{Flow}
 use Rattle.actx_tree.specs.declared.function.Flow.TheVariants as flow
-use Rattle.actx_tree.specs.declared.pattern.Target.{Target}
 use Rattle.actx_tree.specs.declared.pattern.Target.TheVariants as a_target
 use Rattle.actx_tree.specs.declared.pattern.Params.{Params}
 use Rattle.actx_tree.specs.Parts.{piece_of, operand_of, elem_of, params_of}
@@ -34,7 +32,7 @@ use Rattle.actx_grammar.specs.declared.bracket.Bracket.TheVariants as bracket
 use Rattle.actx_grammar.specs.Kinds.{closes, is_dots, is_name, is_colon, is_comma, is_question, is_open_parenthesis, is_open_bracket, is_open_brace, is_arrow_sign, is_new_word, is_yield_word, binary_op, level_of, unary_op, step_op, assign_op, begins_suffix, begins_member}
 use Rattle.actx_grammar.specs.Tokens.{Tokens, next, behind, is_on_line, has_operand, arrow_start, is_async_function, is_shorthand}
 use Rattle.actx_grammar.specs.Places.{is_place, is_logical}
-use Rattle.actx_grammar.specs.Reader.{Parser, Outcome, Read, Inner, and_then, ◌>>=◌, ◌>>◌, pure, refuse, skip, count, expect, name, word, number, text, piece, unread, method_head, many_from, row_from, fits}
+use Rattle.actx_grammar.specs.Reader.{Parser, Read, Inner, ◌>>=◌, ◌>>◌, pure, refuse, skip, count, expect, name, word, number, text, piece, unread, method_head, many_from, row_from, fits}
 use Rattle.actx_grammar.specs.Patterns.{target_by, pattern, params, function, class, key, method_tail}
 
 -- ---- tests of what comes next

@@ -1,5 +1,5 @@
 -- Reading of patterns, parameters, functions, methods and classes.
-use Rattle.std.specs.Prelude.{ℕ, zero, suc, max, Bool, true, false, not, ◌&&◌, ◌||◌, if◌then◌else◌, List, [], ◌∷◌, ◌++◌, Option, Some, None, Ok, Err}
+use Rattle.std.specs.Prelude.{ℕ, zero, suc, max, Bool, true, false, ◌||◌, if◌then◌else◌, List, [], ◌∷◌, ◌++◌, Option, Some, None, Ok, Err}
 use Rattle.actx_text.specs.declared.units.Units.{Units}
 use Rattle.actx_lex.specs.declared.token.Punct.TheVariants as p
 use Rattle.actx_tree.specs.declared.expr.Expr.{Expr}
@@ -17,16 +17,16 @@ use Rattle.actx_tree.specs.declared.pattern.Prop.TheVariants as a_prop
 use Rattle.actx_tree.specs.declared.pattern.Elem.{Elem}
 use Rattle.actx_tree.specs.declared.pattern.Params.{Params}
 use Rattle.actx_tree.specs.Parts.{function_of, method_of, class_of, member_of, elem_of, params_of}
-use Rattle.actx_grammar.specs.declared.error.Cause.TheVariants.{NoTree, TooNested}
+use Rattle.actx_grammar.specs.declared.error.Cause.TheVariants.{NoTree}
 use Rattle.actx_grammar.specs.declared.line.Line.TheVariants as line
 use Rattle.actx_grammar.specs.declared.kind.Kind.{Kind}
 use Rattle.actx_grammar.specs.declared.kind.Kind.TheVariants as kind
 use Rattle.actx_grammar.specs.declared.bracket.Bracket.{Bracket}
 use Rattle.actx_grammar.specs.declared.bracket.Bracket.TheVariants as bracket
 use Rattle.actx_grammar.specs.Kinds.{closes, is_dots, is_name, is_equals, is_colon, is_open_parenthesis, is_open_bracket, is_open_brace, is_class_word, is_extends_word, is_semicolon}
-use Rattle.actx_grammar.specs.Tokens.{Tokens, next, behind, is_static}
+use Rattle.actx_grammar.specs.Tokens.{next, behind, is_static}
 use Rattle.actx_grammar.specs.Places.{is_plain_key}
-use Rattle.actx_grammar.specs.Reader.{Parser, Outcome, Read, Inner, and_then, ◌>>=◌, ◌>>◌, pure, refuse, skip, count, expect, name, literal, optional_name, rest_name, unread, function_head, method_head, row_from, fits}
+use Rattle.actx_grammar.specs.Reader.{Parser, Read, Inner, and_then, ◌>>=◌, ◌>>◌, pure, refuse, skip, count, expect, name, literal, optional_name, rest_name, unread, function_head, method_head, row_from, fits}
 
 -- what ends the members of a pattern or of parameters
 abbrev pub ends_elems : Bracket → Kind → Bool

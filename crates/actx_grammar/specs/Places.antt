@@ -1,5 +1,5 @@
 -- What may be assigned to (ECMA-262 §13.15.1, AssignmentTargetType simple).
-use Rattle.std.specs.Prelude.{ℕ, Bool, true, false, not, ◌&&◌, nat_lt, List, [], ◌∷◌}
+use Rattle.std.specs.Prelude.{Bool, true, false, not, ◌&&◌, nat_lt, List, [], ◌∷◌}
 use Rattle.actx_tree.specs.declared.expr.Expr.{Expr, Expr-F, out-Expr}
 use Rattle.actx_tree.specs.declared.expr.Argument.{Argument}
 use Rattle.actx_tree.specs.declared.expr.Entry.{Entry}

@@ -1,5 +1,5 @@
 -- Reading as a function: what the code does, one definition for each function of it. This file has what reads no node.
-use Rattle.std.specs.Prelude.{◌≡◌, ℕ, ℤ, zero, suc, max, Bool, true, false, ◌&&◌, ◌||◌, if◌then◌else◌, nat_le, List, [], ◌∷◌, ◌++◌, length, Option, Some, None, Result, Ok, Err}
+use Rattle.std.specs.Prelude.{ℕ, ℤ, zero, suc, max, Bool, true, false, if◌then◌else◌, nat_le, List, [], ◌∷◌, ◌++◌, length, Option, Some, None, Result, Ok, Err}
 use Rattle.actx_text.specs.declared.units.Units.{Units}
 use Rattle.actx_lex.specs.declared.token.TokenKind.{TokenKind}
 use Rattle.actx_lex.specs.declared.token.TokenKind.TheVariants as k

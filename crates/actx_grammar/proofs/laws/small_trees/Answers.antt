@@ -1,4 +1,4 @@
-use Rattle.std.proofs.Common.{ℕ, ◌+◌, ◌*◌, ◌≤◌, ◌≡◌, length, arith}
+use Rattle.std.proofs.Common.{arith}
 use Rattle.actx_grammar.proofs.SizeLines as sized
 use Rattle.actx_grammar.proofs.laws.small_trees.Goals as goal
 

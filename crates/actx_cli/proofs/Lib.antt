@@ -1,4 +1,4 @@
-pub mod Lits
+pub mod WordLists
 pub mod Gained
 pub mod Phases
 pub mod Statuses

@@ -1,16 +1,21 @@
--- A file is accepted or meets one refusal, and not both.
-use Rattle.std.proofs.Common.{◌≡◌, ℕ, List, refl, sym, ap, subst, ◌∙◌, arith}
+-- A file is not accepted and refused at once, and its refusals agree.
+use Rattle.std.proofs.Common.{◌≡◌, ℕ, ◌<◌, List, length, refl, sym, ap, subst, ◌∙◌, arith}
 use Rattle.actx_text.specs.Texts.{IsTextOf}
 use Rattle.actx_text.specs.Utf8.{IsFirstIllFormed}
 use Rattle.actx_text.proofs.Utf8Lemmas.{not_utf8, same_place}
 use Rattle.actx_text.proofs.TextLemmas as texts
 use Rattle.actx_lex.specs.declared.token.Token.{Token}
 use Rattle.actx_lex.specs.TokenLists.{SpellsTokens, Reaches}
-use Rattle.actx_parse.proofs.Laws.{reads_one_way}
+use Rattle.actx_lex.proofs.OneList.{one-list}
+use Rattle.actx_tree.specs.declared.tree.Tree.{Tree as FileTree}
+use Rattle.actx_program.specs.Trees.{SpTree}
+use Rattle.actx_program.proofs.TreeLaws.{one_program}
+use Rattle.actx_printing.specs.Printing.{Prints}
+use Rattle.actx_printing.proofs.Injective.{one_printing}
 use Rattle.actx_cli.specs.declared.answer.Refusal.{Refusal}
-use Rattle.actx_cli.specs.declared.answer.Refusal.TheVariants.{Utf8, Token as TokenKind, NotBuilt}
+use Rattle.actx_cli.specs.declared.answer.Refusal.TheVariants.{Utf8, Token as TokenKind, Tree, Nested, NotBuilt}
 use Rattle.actx_cli.specs.Printed.{printed}
-use Rattle.actx_cli.specs.Accepted.{IsTokenized, IsBadToken, IsAccepted, IsRefused}
+use Rattle.actx_cli.specs.Accepted.{IsTokenized, IsBadToken, IsParsed, HasNoTree, IsNested, IsEither, IsAccepted, IsRefused, Agree}
 
 -- bytes spell one text
 same_text : (bytes a b : List ℕ) → IsTextOf bytes a → IsTextOf bytes b → a ≡ b
@@ -30,21 +35,66 @@ same_reach bytes a b at place h bad k other =
     let ge = bad.no_further place (subst (λ (t : List ℕ). Reaches t place) (sym same) other.reached) in
     omega arith
 
-pub one_refusal : (bytes : List ℕ) (kind other : Refusal) (at place : ℕ) → IsRefused bytes kind at → IsRefused bytes other place → (kind ≡ other) × (at ≡ place)
+-- bytes have one token list
+one_tokens : (bytes : List ℕ) (a b : List Token) → IsTokenized bytes a → IsTokenized bytes b → a ≡ b
+one_tokens bytes a b h k = one-list (subst (SpellsTokens a) (same_text bytes h.text k.text h.is_text k.is_text) h.spelled) k.spelled
+
+-- the tree of a file is spelled by its one token list
+its_tree : (bytes : List ℕ) (tree : FileTree) (tokens : List Token) (p : IsParsed bytes tree) → IsTokenized bytes tokens → SpTree tokens tree p.levels
+its_tree bytes tree tokens p t = subst (λ (ts : List Token). SpTree ts tree p.levels) (one_tokens bytes p.tokens tokens p.tokenized t) p.spelled
+
+one_tree : (bytes : List ℕ) (s t : FileTree) → IsParsed bytes s → IsParsed bytes t → s ≡ t
+one_tree bytes s t p q = one_program q.tokens s t p.levels q.levels (its_tree bytes s q.tokens p q.tokenized) q.spelled
+
+treeless : (bytes : List ℕ) (tree : FileTree) (tokens : List Token) → IsParsed bytes tree → IsTokenized bytes tokens → HasNoTree tokens → ⊥
+treeless bytes tree tokens p t none = none tree p.levels (its_tree bytes tree tokens p t)
+
+too_deep : (bytes : List ℕ) (tree : FileTree) (tokens : List Token) → IsParsed bytes tree → IsTokenized bytes tokens → IsNested tokens → ⊥
+too_deep bytes tree tokens p t n = omega (arith, n.deep tree p.levels (its_tree bytes tree tokens p t), p.fits)
+
+either : (bytes : List ℕ) (a b : List Token) → IsTokenized bytes a → HasNoTree a → IsTokenized bytes b → IsNested b → IsEither bytes
+either bytes a b h none k n = record {
+  tokens = a;
+  tokenized = h;
+  long = subst (λ (ts : List Token). 100 < length ts) (one_tokens bytes b a k h) n.long;
+  none = none;
+}
+
+pub one_refusal : (bytes : List ℕ) (kind other : Refusal) (at place : ℕ) → IsRefused bytes kind at → IsRefused bytes other place → Agree bytes kind at other place
 one_refusal bytes Utf8 Utf8 at place h k = (refl, same_place bytes at place h k)
 one_refusal bytes Utf8 TokenKind at place h k = absurd (ill_formed bytes k.0 at h k.1)
-one_refusal bytes Utf8 NotBuilt at place h k = absurd (ill_formed bytes k.1.text at h k.1.is_text)
+one_refusal bytes Utf8 Tree at place h k = absurd (ill_formed bytes k.1.text at h k.1.is_text)
+one_refusal bytes Utf8 Nested at place h k = absurd (ill_formed bytes k.1.text at h k.1.is_text)
+one_refusal bytes Utf8 NotBuilt at place h k = absurd (ill_formed bytes k.1.tokenized.text at h k.1.tokenized.is_text)
 one_refusal bytes TokenKind Utf8 at place h k = absurd (ill_formed bytes h.0 place k h.1)
 one_refusal bytes TokenKind TokenKind at place h k = (refl, same_reach bytes h.0 k.0 at place h.1 h.2 k.1 k.2)
-one_refusal bytes TokenKind NotBuilt at place h k = absurd (spelled bytes k.0 h.0 at k.1 h.1 h.2)
-one_refusal bytes NotBuilt Utf8 at place h k = absurd (ill_formed bytes h.1.text place k h.1.is_text)
-one_refusal bytes NotBuilt TokenKind at place h k = absurd (spelled bytes h.0 k.0 place h.1 k.1 k.2)
+one_refusal bytes TokenKind Tree at place h k = absurd (spelled bytes k.0 h.0 at k.1 h.1 h.2)
+one_refusal bytes TokenKind Nested at place h k = absurd (spelled bytes k.0 h.0 at k.1 h.1 h.2)
+one_refusal bytes TokenKind NotBuilt at place h k = absurd (spelled bytes k.1.tokens h.0 at k.1.tokenized h.1 h.2)
+one_refusal bytes Tree Utf8 at place h k = absurd (ill_formed bytes h.1.text place k h.1.is_text)
+one_refusal bytes Tree TokenKind at place h k = absurd (spelled bytes h.0 k.0 place h.1 k.1 k.2)
+one_refusal bytes Tree Tree at place h k = tt
+one_refusal bytes Tree Nested at place h k = either bytes h.0 k.0 h.1 h.2 k.1 k.2
+one_refusal bytes Tree NotBuilt at place h k = absurd (treeless bytes k.0 h.0 k.1 h.1 h.2)
+one_refusal bytes Nested Utf8 at place h k = absurd (ill_formed bytes h.1.text place k h.1.is_text)
+one_refusal bytes Nested TokenKind at place h k = absurd (spelled bytes h.0 k.0 place h.1 k.1 k.2)
+one_refusal bytes Nested Tree at place h k = either bytes k.0 h.0 k.1 k.2 h.1 h.2
+one_refusal bytes Nested Nested at place h k = tt
+one_refusal bytes Nested NotBuilt at place h k = absurd (too_deep bytes k.0 h.0 k.1 h.1 h.2)
+one_refusal bytes NotBuilt Utf8 at place h k = absurd (ill_formed bytes h.1.tokenized.text place k h.1.tokenized.is_text)
+one_refusal bytes NotBuilt TokenKind at place h k = absurd (spelled bytes h.1.tokens k.0 place h.1.tokenized k.1 k.2)
+one_refusal bytes NotBuilt Tree at place h k = absurd (treeless bytes h.0 k.0 h.1 k.1 k.2)
+one_refusal bytes NotBuilt Nested at place h k = absurd (too_deep bytes h.0 k.0 h.1 k.1 k.2)
 one_refusal bytes NotBuilt NotBuilt at place h k = (refl, h.3 ∙ sym k.3)
 
 pub not_both : (bytes text : List ℕ) (kind : Refusal) (at : ℕ) → IsAccepted bytes text → IsRefused bytes kind at → ⊥
-not_both bytes text Utf8 at a h = ill_formed bytes a.tokenized.text at h a.tokenized.is_text
-not_both bytes text TokenKind at a h = spelled bytes a.tokens h.0 at a.tokenized h.1 h.2
-not_both bytes text NotBuilt at a h = h.2 a.literals a.form
+not_both bytes text Utf8 at a h = ill_formed bytes a.parsed.tokenized.text at h a.parsed.tokenized.is_text
+not_both bytes text TokenKind at a h = spelled bytes a.parsed.tokens h.0 at a.parsed.tokenized h.1 h.2
+not_both bytes text Tree at a h = treeless bytes a.tree h.0 a.parsed h.1 h.2
+not_both bytes text Nested at a h = too_deep bytes a.tree h.0 a.parsed h.1 h.2
+not_both bytes text NotBuilt at a h = h.2 a.literals (subst (λ (t : FileTree). Prints t a.literals) (one_tree bytes a.tree h.0 a.parsed h.1) a.prints)
 
 pub one_text : (bytes text other : List ℕ) → IsAccepted bytes text → IsAccepted bytes other → text ≡ other
-one_text bytes text other a b = a.text_is ∙ (ap printed (reads_one_way bytes a.literals b.literals a.form b.form) ∙ sym b.text_is)
+one_text bytes text other a b =
+    let moved : Prints b.tree a.literals = subst (λ (t : FileTree). Prints t a.literals) (one_tree bytes a.tree b.tree a.parsed b.parsed) a.prints in
+    a.text_is ∙ (ap printed (one_printing b.tree a.literals b.literals moved b.prints) ∙ sym b.text_is)

@@ -1,5 +1,5 @@
 -- What a call comes to over a shelf that tells its files.
-use Rattle.std.proofs.Common.{◌≡◌, ◌⊎◌, inl, inr, ℕ, ◌+◌, ◌≤◌, ◌<◌, List, [], ◌∷◌, ◌++◌, length, take, Option, Some, refl, sym, ap, ap₂, subst, ◌∙◌, arith, length-append, length-take}
+use Rattle.std.proofs.Common.{◌≡◌, ◌⊎◌, inl, inr, ℕ, ◌+◌, ◌≤◌, ◌<◌, List, [], ◌∷◌, ◌++◌, length, take, Option, Some, refl, sym, ap, subst, ◌∙◌, arith, length-append, length-take}
 use Rattle.std.proofs.lemmas.List.{take_all}
 use Rattle.actx_outside.specs.Files.{ShelfState, IsFetched, IsFront}
 use Rattle.actx_cli.specs.declared.answer.Answer.{Answer}
@@ -11,7 +11,7 @@ use Rattle.actx_cli.specs.declared.answer.Refusal.{Refusal}
 use Rattle.actx_cli.proofs.Refusals.{one_refusal, not_both, one_text}
 use Rattle.actx_cli.specs.Calls.{Change, Call}
 use Rattle.actx_cli.specs.Runs.{IsHanded, Comes, Prints, Ran}
-use Rattle.actx_cli.specs.Statuses.{Gained, SaysOnly, Faulted, IsTold, RefusedAlways, TooLongAlways, Completes}
+use Rattle.actx_cli.specs.Statuses.{Gained, SaysRefused, Faulted, IsTold, RefusedAlways, TooLongAlways, Completes}
 
 -- the command line names one file
 spelled : (words : List (List ℕ)) (steps : ℕ) (feed : Feed) (file : List ℕ) → IsCommand words (Run steps feed file) → words ≡ run_word ∷ file ∷ []
@@ -46,11 +46,10 @@ none_failed words shelf contents file t h = grows shelf.old.failed file (sym t.f
 
 -- a file that is refused is refused so, or memory ran out
 refuses : (answer : Answer) (call : Call) (text contents : List ℕ) (kind : Refusal) (at : ℕ) → IsTold call.words call.shelf contents → length contents ≤ longest → IsRefused contents kind at
-    → Comes call.words call.shelf answer text → Prints answer text call.out → Gained call.err (line_of answer) → ((status_of answer ≡ 65) × SaysOnly call (Refused kind at)) ⊎ (status_of answer ≡ 75)
+    → Comes call.words call.shelf answer text → Prints answer text call.out → Gained call.err (line_of answer) → ((status_of answer ≡ 65) × SaysRefused call contents kind at) ⊎ (status_of answer ≡ 75)
 refuses (Refused own place) call text contents kind at t short r h p s =
     let mine : IsRefused contents own place = subst (λ (b : List ℕ). IsRefused b own place) (handed_whole call.words call.shelf contents h.0 t h.1 short) h.3 in
-    let same = one_refusal contents own kind place at mine r in
-    inl (refl, (subst (Gained call.out) h.4 p, subst (λ (a : Answer). Gained call.err (line_of a)) (ap₂ Refused same.0 same.1) s))
+    inl (refl, record { own = own; place = place; refused = mine; agrees = one_refusal contents own kind place at mine r; said = (subst (Gained call.out) h.4 p, s) })
 refuses (Memory steps) call text contents kind at t short r h p s = inr refl
 refuses Usage call text contents kind at t short r h p s = absurd (h.0 (Run t.named.0 t.named.1 t.file) t.named.2)
 refuses CannotRead call text contents kind at t short r h p s = absurd (none_failed call.words call.shelf contents h.0 t h.2)

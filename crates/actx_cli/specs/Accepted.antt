@@ -1,11 +1,13 @@
 -- Which files are accepted, what they print, and which refusal the others meet.
-use Rattle.std.specs.Prelude.{◌≡◌, ℕ, ◌≤◌, List, length}
+use Rattle.std.specs.Prelude.{◌≡◌, ℕ, ◌<◌, ◌≤◌, List, length}
 use Rattle.actx_text.specs.Utf8.{IsFirstIllFormed}
 use Rattle.actx_text.specs.Texts.{IsTextOf}
 use Rattle.actx_lex.specs.declared.token.Token.{Token}
 use Rattle.actx_lex.specs.TokenLists.{SpellsTokens, Reaches}
-use Rattle.actx_parse.specs.FirstForm.{IsFirstForm}
-use Rattle.actx_parse.specs.declared.lit.Lit.{Lit}
+use Rattle.actx_tree.specs.declared.tree.Tree.{Tree}
+use Rattle.actx_program.specs.Trees.{SpTree}
+use Rattle.actx_printing.specs.declared.lit.Lit.{Lit}
+use Rattle.actx_printing.specs.Printing.{Prints}
 use Rattle.actx_cli.specs.declared.answer.Refusal.{Refusal}
 use Rattle.actx_cli.specs.declared.answer.Refusal.TheVariants as refusal
 use Rattle.actx_cli.specs.Printed.{printed}
@@ -26,21 +28,56 @@ pub record IsBadToken (text : List ℕ) (at : ℕ) : Type 0 where
   pub reached : Reaches text at
   pub no_further : (place : ℕ) → Reaches text place → place ≤ at
 
--- bytes that are no file of the first form
-abbrev pub IsNotForm : List ℕ → Type 0
-IsNotForm bytes = (literals : List (List Lit)) → IsFirstForm bytes literals → ⊥
+-- the bytes are those of a tree with at most 201 levels of nodes
+pub record IsParsed (bytes : List ℕ) (tree : Tree) : Type 0 where
+  pub tokens : List Token
+  pub tokenized : IsTokenized bytes tokens
+  pub levels : ℕ
+  pub spelled : SpTree tokens tree levels
+  pub fits : levels ≤ 201
+
+-- the tokens spell no tree
+abbrev pub HasNoTree : List Token → Type 0
+HasNoTree tokens = (tree : Tree) (levels : ℕ) → SpTree tokens tree levels → ⊥
+
+-- there are more than 100 tokens, and each tree that they spell has more than 201 levels
+pub record IsNested (tokens : List Token) : Type 0 where
+  pub long : 100 < length tokens
+  pub deep : (tree : Tree) (levels : ℕ) → SpTree tokens tree levels → 201 < levels
+
+-- not every statement is a printing statement
+abbrev pub IsNotBuilt : Tree → Type 0
+IsNotBuilt tree = (literals : List (List Lit)) → Prints tree literals → ⊥
 
 -- these bytes are a file that prints this text
 pub record IsAccepted (bytes text : List ℕ) : Type 0 where
   pub short : length bytes ≤ longest
-  pub tokens : List Token
-  pub tokenized : IsTokenized bytes tokens
+  pub tree : Tree
+  pub parsed : IsParsed bytes tree
   pub literals : List (List Lit)
-  pub form : IsFirstForm bytes literals
+  pub prints : Prints tree literals
   pub text_is : text ≡ printed literals
 
--- why a file is refused, and at which place: the first of these that holds
+-- Why a file is refused, and at which place. Of Tree and Nested the place is a hint, of which nothing is said.
 abbrev pub IsRefused : List ℕ → Refusal → ℕ → Type 0
 IsRefused bytes refusal.Utf8 at = IsFirstIllFormed bytes at
 IsRefused bytes refusal.Token at = (text : List ℕ) × IsTextOf bytes text × IsBadToken text at
-IsRefused bytes refusal.NotBuilt at = (tokens : List Token) × IsTokenized bytes tokens × IsNotForm bytes × (at ≡ 0)
+IsRefused bytes refusal.Tree at = (tokens : List Token) × IsTokenized bytes tokens × HasNoTree tokens
+IsRefused bytes refusal.Nested at = (tokens : List Token) × IsTokenized bytes tokens × IsNested tokens
+IsRefused bytes refusal.NotBuilt at = (tree : Tree) × IsParsed bytes tree × IsNotBuilt tree × (at ≡ 0)
+
+-- A file of more than 100 tokens that spell no tree may be refused for want of a tree and as nested too deep.
+pub record IsEither (bytes : List ℕ) : Type 0 where
+  pub tokens : List Token
+  pub tokenized : IsTokenized bytes tokens
+  pub long : 100 < length tokens
+  pub none : HasNoTree tokens
+
+-- Two refusals of one file: they are of one kind and at one place, but that the place of Tree and Nested is a hint, and
+-- that either of these two may come where both can.
+abbrev pub Agree : List ℕ → Refusal → ℕ → Refusal → ℕ → Type 0
+Agree bytes refusal.Tree at refusal.Tree place = Unit {0}
+Agree bytes refusal.Nested at refusal.Nested place = Unit {0}
+Agree bytes refusal.Tree at refusal.Nested place = IsEither bytes
+Agree bytes refusal.Nested at refusal.Tree place = IsEither bytes
+Agree bytes kind at other place = (kind ≡ other) × (at ≡ place)

@@ -1,11 +1,11 @@
 -- Laws of what is accepted and refused.
 use Rattle.std.specs.Prelude.{◌≡◌, ℕ, List}
 use Rattle.actx_cli.specs.declared.answer.Refusal.{Refusal}
-use Rattle.actx_cli.specs.Accepted.{IsAccepted, IsRefused}
+use Rattle.actx_cli.specs.Accepted.{IsAccepted, IsRefused, Agree}
 
--- a file meets at most one refusal, at one place
+-- a file meets at most one refusal, at one place, but for what `Agree` says of Tree and Nested
 abbrev pub HasOneRefusal : Type 0
-HasOneRefusal = (bytes : List ℕ) (kind other : Refusal) (at place : ℕ) → IsRefused bytes kind at → IsRefused bytes other place → (kind ≡ other) × (at ≡ place)
+HasOneRefusal = (bytes : List ℕ) (kind other : Refusal) (at place : ℕ) → IsRefused bytes kind at → IsRefused bytes other place → Agree bytes kind at other place
 
 -- a file that is accepted meets no refusal
 abbrev pub IsNotBoth : Type 0

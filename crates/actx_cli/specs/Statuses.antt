@@ -10,7 +10,7 @@ use Rattle.actx_cli.specs.declared.answer.Refusal.{Refusal}
 use Rattle.actx_cli.specs.Words.{Names, IsNoCommand}
 use Rattle.actx_cli.specs.Answers.{line_of}
 use Rattle.actx_cli.specs.Calls.{Change, Call}
-use Rattle.actx_cli.specs.Accepted.{longest, IsAccepted, IsRefused}
+use Rattle.actx_cli.specs.Accepted.{longest, IsAccepted, IsRefused, Agree}
 use Rattle.actx_cli.specs.Runs.{NoneFailed, IsHanded}
 
 -- a stream gained these bytes and no others
@@ -49,8 +49,16 @@ UsageAlways call = IsNoCommand call.words → (call.status ≡ 64) ⊎ Faulted c
 abbrev pub RefusedOnly : Call → Type 0
 RefusedOnly call = call.status ≡ 65 → (bytes : List ℕ) × (kind : Refusal) × (at : ℕ) × IsHanded call.words call.shelf bytes × (length bytes ≤ longest) × IsRefused bytes kind at × SaysOnly call (Refused kind at)
 
+-- these contents are refused, and the line says so of a kind and place that agree with these
+pub record SaysRefused (call : Call) (contents : List ℕ) (kind : Refusal) (at : ℕ) : Type 0 where
+  pub own : Refusal
+  pub place : ℕ
+  pub refused : IsRefused contents own place
+  pub agrees : Agree contents own place kind at
+  pub said : SaysOnly call (Refused own place)
+
 abbrev pub RefusedAlways : Call → Type 0
-RefusedAlways call = (contents : List ℕ) (kind : Refusal) (at : ℕ) → IsTold call.words call.shelf contents → length contents ≤ longest → IsRefused contents kind at → ((call.status ≡ 65) × SaysOnly call (Refused kind at)) ⊎ (call.status ≡ 75) ⊎ Faulted call.err
+RefusedAlways call = (contents : List ℕ) (kind : Refusal) (at : ℕ) → IsTold call.words call.shelf contents → length contents ≤ longest → IsRefused contents kind at → ((call.status ≡ 65) × SaysRefused call contents kind at) ⊎ (call.status ≡ 75) ⊎ Faulted call.err
 
 -- 66: the shelf's list of failed names gained the name in the words, or the file is too long
 abbrev pub IsUnread : Call → Type 0

@@ -7,6 +7,11 @@ pub enum Refusal {
     Utf8,
     /// The text has no token list. The place is that of a unit.
     Token,
+    /// The tokens spell no tree of the grammar. The place is about where reading stopped.
+    Tree,
+    /// The tokens spell no tree in which each node has at most 200 nodes around it, and there are more
+    /// than 100 of them. The place is about where reading stopped.
+    Nested,
     /// The file needs more of the language than is built. The place is 0.
     NotBuilt,
 }

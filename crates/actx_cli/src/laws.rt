@@ -2,7 +2,8 @@
 
 ghost use Rattle.actx_cli.specs.Laws.{HasOneRefusal, HasOneText, IsNotBoth};
 
-/// A file meets at most one refusal, at one place.
+/// A file meets at most one refusal, at one place; but the places of `Tree` and `Nested` are hints, and a
+/// file without a tree that has more than 100 tokens may get either of these two.
 pub fn one_refusal()
     ensures { HasOneRefusal }
 {}

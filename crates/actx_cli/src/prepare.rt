@@ -1,6 +1,6 @@
 //! From the words to the pieces that are to be written.
 
-ghost use Rattle.std.specs.Prelude.{◌≡◌, ◌≤◌, length, [], MatchResult};
+ghost use Rattle.std.specs.Prelude.{◌≤◌, length, [], MatchResult};
 ghost use Rattle.std.specs.List.{flat_map};
 ghost use Rattle.actx_outside.specs.Files.{IsFetched};
 ghost use Rattle.actx_cli.specs.Words.{texts};

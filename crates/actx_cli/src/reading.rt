@@ -2,14 +2,16 @@
 
 ghost use Rattle.std.specs.Prelude.{◌≤◌, length, MatchResult};
 ghost use Rattle.std.specs.List.{flat_map};
-ghost use Rattle.actx_cli.specs.Accepted.{longest, IsAccepted, IsTokenized};
-ghost use Rattle.actx_cli.specs.Phases.{ReadingFails};
+ghost use Rattle.actx_printing.specs.Printing.{literals};
+ghost use Rattle.actx_cli.specs.Accepted.{longest, IsAccepted, IsParsed, IsTokenized};
+ghost use Rattle.actx_cli.specs.Phases.{IsPrinting, ReadingFails};
 
 use crate::answer::{Answer, Refusal};
 use crate::pieces::pieces;
 use actx_lex::{LexError, Token, tokens};
-use actx_parse::{FirstError, first_form};
+use actx_parse::{FirstError, Lit, ParseError, printing, program};
 use actx_text::{TextError, from_utf8};
+use actx_tree::Tree;
 use std::alloc::Global;
 
 // The tokens of the bytes.
@@ -36,6 +38,40 @@ fn tokens_of(alloc: Global, bytes: &[u8]) -> Result<Vec<Token>, Answer>
     }
 }
 
+// The tree of the bytes.
+fn tree_of(alloc: Global, bytes: &[u8]) -> Result<Tree, Answer>
+    ensures { MatchResult result (λ tree. IsParsed bytes.now tree) (ReadingFails bytes.now) }
+{
+    let found = tokens_of(alloc, bytes)?;
+    match program(alloc, &found) {
+        Ok(tree) => Ok(tree),
+        Err(ParseError::NoTree { at }) => Err(Answer::Refused {
+            kind: Refusal::Tree,
+            at,
+        }),
+        Err(ParseError::TooNested { at }) => Err(Answer::Refused {
+            kind: Refusal::Nested,
+            at,
+        }),
+        Err(ParseError::Memory) => Err(Answer::Memory { steps: 0 }),
+    }
+}
+
+// The literals of each statement of the bytes.
+fn literals_of(alloc: Global, bytes: &[u8]) -> Result<Vec<Vec<Lit>>, Answer>
+    ensures { MatchResult result (λ all. IsPrinting bytes.now (literals all)) (ReadingFails bytes.now) }
+{
+    let tree = tree_of(alloc, bytes)?;
+    match printing(alloc, &tree) {
+        Ok(all) => Ok(all),
+        Err(FirstError::NotBuilt) => Err(Answer::Refused {
+            kind: Refusal::NotBuilt,
+            at: 0,
+        }),
+        Err(FirstError::Memory) => Err(Answer::Memory { steps: 0 }),
+    }
+}
+
 /// The pieces that the bytes of a file print, a line for each statement; or its refusal. All are made
 /// before the first is written, so that want of memory leaves nothing half said.
 pub fn reading(alloc: Global, bytes: &[u8]) -> Result<Vec<Vec<u8>>, Answer>
@@ -44,17 +80,7 @@ pub fn reading(alloc: Global, bytes: &[u8]) -> Result<Vec<Vec<u8>>, Answer>
         (λ found. IsAccepted bytes.now (flat_map (λ piece. piece.items) found.items))
         (ReadingFails bytes.now) }
 {
-    let _tokens = tokens_of(alloc, bytes)?;
-    let all = match first_form(alloc, bytes) {
-        Ok(all) => all,
-        Err(FirstError::NotBuilt) => {
-            return Err(Answer::Refused {
-                kind: Refusal::NotBuilt,
-                at: 0,
-            });
-        }
-        Err(FirstError::Memory) => return Err(Answer::Memory { steps: 0 }),
-    };
+    let all = literals_of(alloc, bytes)?;
     match pieces(alloc, &all) {
         Ok(found) => Ok(found),
         Err(_) => Err(Answer::Memory { steps: 0 }),

@@ -18,6 +18,8 @@ fn refused_front(kind: Refusal) -> &'static [u8]
     match kind {
         Refusal::Utf8 => b"actx: refused utf8 at ",
         Refusal::Token => b"actx: refused token at ",
+        Refusal::Tree => b"actx: refused tree at ",
+        Refusal::Nested => b"actx: refused nested at ",
         Refusal::NotBuilt => b"actx: refused notbuilt at ",
     }
 }

@@ -95,6 +95,11 @@ fn files_that_print(rt: HostRuntime) -> Result<(), Fail> {
             b" console.log(false);\nconsole.log( '' , 0 ); ",
             b"false\n 0\n",
         ),
+        (b"console.log(\n'a',\n1\n)", b"a 1\n"),
+        (
+            b"console.log('\xC3\xA9\xE2\x82\xAC\xF0\x9F\x98\x80')",
+            b"\xC3\xA9\xE2\x82\xAC\xF0\x9F\x98\x80\n",
+        ),
     ] {
         check(&rt, &Case { file, ..RUN }, 0, out, b"")?;
         check(
@@ -122,13 +127,30 @@ fn files_that_are_refused(rt: HostRuntime) -> Result<(), Fail> {
             b"actx: refused token at 12\n",
         ),
         (b"\xC3\xA9 @", b"actx: refused token at 2\n"),
-        (b"console.log(1)", b"actx: refused notbuilt at 0\n"),
+        (b"console.log(1", b"actx: refused tree at 13\n"),
+        (
+            b"console.log('a') console.log('b')",
+            b"actx: refused tree at 17\n",
+        ),
+        (b"console.log", b"actx: refused notbuilt at 0\n"),
         (b"console.log(1 + 1);", b"actx: refused notbuilt at 0\n"),
         (b"let a;", b"actx: refused notbuilt at 0\n"),
     ] {
         check(&rt, &Case { file, ..RUN }, 65, b"", err)?;
     }
     Ok(())
+}
+
+// The statement and 200 operators are nodes, and the next one has 201 nodes around it.
+#[test]
+fn a_file_that_is_nested_too_deep(rt: HostRuntime) -> Result<(), Fail> {
+    let mut text = Vec::new(rt.alloc());
+    for _ in 0..300 {
+        text.push(b'!')?;
+    }
+    text.extend_from_slice(b"true")?;
+    let line = b"actx: refused nested at 200\n";
+    check(&rt, &Case { file: &text, ..RUN }, 65, b"", line)
 }
 
 // These words are refused, and nothing is printed.

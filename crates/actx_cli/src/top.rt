@@ -62,7 +62,7 @@ pub fn actx<F: Shelf, O: Sink, E: Sink, T: Tape>(
     // 64: exactly where the words are no command line, unless the report fails.
     ensures usage { UsageOnly (call_of (texts words.now) (F.state shelf.old) (F.state shelf.new) (O.state out.old) (O.state out.new) (E.state err.old) (E.state err.new) result) }
     ensures usage_always { UsageAlways (call_of (texts words.now) (F.state shelf.old) (F.state shelf.new) (O.state out.old) (O.state out.new) (E.state err.old) (E.state err.new) result) }
-    // 65: exactly where the file is refused, for the reason and at the place of the line, unless the report fails or memory runs out.
+    // 65: exactly where the file is refused, for the reason and at the place of the line (of the words `tree` and `nested` a hint), unless the report fails or memory runs out.
     ensures refused { RefusedOnly (call_of (texts words.now) (F.state shelf.old) (F.state shelf.new) (O.state out.old) (O.state out.new) (E.state err.old) (E.state err.new) result) }
     ensures refused_always { RefusedAlways (call_of (texts words.now) (F.state shelf.old) (F.state shelf.new) (O.state out.old) (O.state out.new) (E.state err.old) (E.state err.new) result) }
     // 66: only where the name failed; exactly where the file is too long, unless the report fails or memory runs out.

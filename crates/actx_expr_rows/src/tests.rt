@@ -104,12 +104,7 @@ fn shown(alloc: Global, call: Call, source: &str) -> Result<String, AllocError> 
 }
 
 /// Checks each line of the table, and answers how many there are.
-fn check_rows(
-    rt: &impl Abort,
-    alloc: Global,
-    call: Call,
-    table: &str,
-) -> Result<u32, AllocError> {
+fn check_rows(rt: &impl Abort, alloc: Global, call: Call, table: &str) -> Result<u32, AllocError> {
     let mut rows = 0u32;
     for line in table.lines() {
         if let Some((source, want)) = line.split_once(" ⇒ ") {

@@ -1,6 +1,6 @@
 use Rattle.std.proofs.Common.{◌≡◌, ap, subst, ◌∙◌, sym, refl, string_bytes}
 use Rattle.actx_cli.specs.Words.{IsName, texts, run_word}
-use Rattle.actx_cli.proofs.Lits.{two_words, same_bytes}
+use Rattle.actx_cli.proofs.WordLists.{two_words, same_bytes}
 use Rattle.actx_cli.proofs.words.read_words.Goals as goal
 
 pub returns-then-is_name-clause-command : goal.returns-then-is_name-clause-command

@@ -15,7 +15,7 @@ KIB = 1 << 10
 
 PRINTING = b"console.log('row', 12345);\n"
 
-# Names, numbers, texts, templates, comments and many signs: tokens of every kind, and no printing statement.
+# Names, numbers, texts, templates, comments and many signs: tokens of every kind in functions, and no printing statement.
 MIXED = """const handle = async (request, { id = 0x, name }) => { // one request
   if (request?.tries >= 10 && !request.done || id !== 7) return `${name}: ${id + 1} of ${"all"}`;
   /* a comment
@@ -27,6 +27,31 @@ MIXED = """const handle = async (request, { id = 0x, name }) => { // one request
 def repeated(line):
     """Files of one piece of text, again and again, up to a size."""
     return lambda size: line * (size // len(line))
+
+
+def between(front, piece, back):
+    """Files of one front, a piece again and again up to a size, and one back."""
+    return lambda size: front + piece * (size // len(piece)) + back
+
+
+def functions(size):
+    """Functions in functions, 190 deep, again and again up to a size."""
+    one = b'function f() {' * 190 + b'}' * 190 + b'\n'
+    return one * (size // len(one))
+
+
+# What `actx` reads whole, and then refuses as not built. A file of 500 KiB has 100,000 of the pairs of brackets, one of
+# 200 KiB 100,000 of the parameters.
+TREES = [
+    ('mixed code', repeated(MIXED), 1024),
+    ('pairs of brackets', repeated(b'(a);\n'), 500),
+    ('brackets in one chain', between(b'a = b', b' + (c)', b';'), 500),
+    ('parameters of one arrow', between(b'x = (', b'a,', b') => 0;'), 200),
+    ('arrows, each in the other', repeated(b'(a, b) => (c) => ((d)) => e;\n'), 500),
+    ('suffixes of one place', between(b'a', b'.b', b' = 1;'), 500),
+    ('functions in functions', functions, 500),
+    ('semicolons', repeated(b';'), 1000),
+]
 
 
 def once(program, folder, expected):
@@ -76,8 +101,8 @@ def main():
     if not os.path.exists(program):
         sys.exit('no program: run bin/actx once')
     measure(program, 'printing statements', repeated(PRINTING), (512 * KIB, 1024 * KIB), 0)
-    # The tokens of a file that is read whole and then refused as not built.
-    measure(program, 'tokens', repeated(MIXED), (256 * KIB, 1024 * KIB), 65)
+    for name, make, size in TREES:
+        measure(program, name, make, (size // 4 * KIB, size * KIB), 65)
     beside = os.path.join(TOP, 'crates/cells_speed/out/cells_speed')
     if os.path.exists(beside):
         cells(beside, 10_000_000)

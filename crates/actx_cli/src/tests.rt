@@ -1,3 +1,5 @@
+ghost use Rattle.std.specs.Prelude.{◌<◌};
+
 use super::*;
 use actx_outside::{ClockTape, ListShelf, MemSink};
 use std::alloc::Global;
@@ -151,6 +153,39 @@ fn a_file_that_is_nested_too_deep(rt: HostRuntime) -> Result<(), Fail> {
     text.extend_from_slice(b"true")?;
     let line = b"actx: refused nested at 200\n";
     check(&rt, &Case { file: &text, ..RUN }, 65, b"", line)
+}
+
+// The kind of refusal that a line tells, by its place here; 4 for no line.
+fn kind_of(line: &[u8]) -> usize
+    ensures { result < 5 }
+{
+    if line.is_empty() {
+        4
+    } else if line.starts_with(b"actx: refused utf8 at ") {
+        0
+    } else if line.starts_with(b"actx: refused token at ") {
+        1
+    } else if line.starts_with(b"actx: refused tree at ") {
+        2
+    } else {
+        3
+    }
+}
+
+// A file cut after each of its bytes prints, or is refused for a cause that its front has.
+#[test]
+fn a_file_that_is_cut(rt: HostRuntime) -> Result<(), Fail> {
+    let file = "console.log('é', 1)\nconsole.log(`${[a => { b }]}`, /* c */ '😀')".as_bytes();
+    let mut seen = [false; 5];
+    for place in 0..file.len() {
+        let file = &file[..place];
+        let answer = call(rt.alloc(), &Case { file, ..RUN })?;
+        let kind = kind_of(&answer.err);
+        seen[kind] = true;
+        assert_eq!(rt; answer.status, if kind == 4 { 0 } else { 65 });
+    }
+    assert_eq!(rt; seen, [true, true, true, true, true]);
+    Ok(())
 }
 
 // These words are refused, and nothing is printed.

@@ -1,232 +1,206 @@
 //! Trees as short texts: a node stands in brackets, behind its operator.
 
-use crate::signs::{assign_sign, binary_sign, flow_sign, step_sign, unary_sign};
-use crate::words::{name, quoted, range, rest_name};
-use actx_tree::{
-    Argument, Class, Elem, Entry, Expr, Function, Key, Method, Params, Prop, Suffix, Target,
-};
+use crate::binds::{class, function, key, method, params};
+use crate::parts::{Part, put};
+use crate::signs::{assign_sign, binary_sign, step_sign, unary_sign};
+use actx_tree::{Argument, Entry, Expr, Suffix};
 use sqlite_items::Items;
 use std::alloc::AllocError;
 
-/// Adds the shape of an expression, down to so many levels.
-#[cycle(shapes)]
-pub fn expr(out: &mut String, tree: &Expr, levels: usize) -> Result<(), AllocError> {
-    if levels == 0 {
-        return out.push_str("..");
-    }
+/// Adds the shape of an expression.
+pub fn expr<'a>(parts: &mut Vec<Part<'a>>, tree: &'a Expr) -> Result<(), AllocError> {
     match tree {
-        Expr::Name(text) => name(out, text),
-        Expr::Number(value) => {
-            write!(out, "{}", *value)?;
-            Ok(())
-        }
-        Expr::Text(text) => quoted(out, text),
-        Expr::Bool(value) => out.push_str(if *value { "true" } else { "false" }),
-        Expr::Null => out.push_str("null"),
-        Expr::This => out.push_str("this"),
+        Expr::Name(text) => put(parts, Part::Name(text)),
+        Expr::Number(value) => put(parts, Part::Number(*value)),
+        Expr::Text(text) => put(parts, Part::Quoted(text)),
+        Expr::Bool(value) => put(parts, Part::Word(if *value { "true" } else { "false" })),
+        Expr::Null => put(parts, Part::Word("null")),
+        Expr::This => put(parts, Part::Word("this")),
         Expr::SuperMember(text) => {
-            out.push_str("super.")?;
-            name(out, text)
+            put(parts, Part::Word("super."))?;
+            put(parts, Part::Name(text))
         }
-        Expr::Function(f) => function(out, f, levels - 1),
-        Expr::Class(c) => class(out, c, levels - 1),
+        Expr::Function(f) => function(parts, f),
+        Expr::Class(c) => class(parts, c),
         _ => {
-            out.push('(')?;
-            node(out, tree, levels - 1)?;
-            out.push(')')
+            put(parts, Part::Word("("))?;
+            node(parts, tree)?;
+            put(parts, Part::Word(")"))
         }
     }
 }
 
 /// Adds what stands in the brackets of a node.
-#[cycle(shapes)]
-fn node(out: &mut String, tree: &Expr, levels: usize) -> Result<(), AllocError> {
-    if levels == 0 {
-        return out.push_str("..");
-    }
+fn node<'a>(parts: &mut Vec<Part<'a>>, tree: &'a Expr) -> Result<(), AllocError> {
     match tree {
         Expr::Template(text, pieces) => {
-            out.push_str("template ")?;
-            quoted(out, text)?;
+            put(parts, Part::Word("template "))?;
+            put(parts, Part::Quoted(text))?;
             for piece in pieces.as_slice() {
-                out.push(' ')?;
-                expr(out, &piece.value, levels - 1)?;
-                out.push(' ')?;
-                quoted(out, &piece.after)?;
+                put(parts, Part::Word(" "))?;
+                put(parts, Part::Expr(&piece.value))?;
+                put(parts, Part::Word(" "))?;
+                put(parts, Part::Quoted(&piece.after))?;
             }
             Ok(())
         }
         Expr::Brackets(x) => {
-            out.push_str("in ")?;
-            expr(out, x.get(), levels - 1)
+            put(parts, Part::Word("in "))?;
+            put(parts, Part::Expr(x.get()))
         }
         Expr::Array(xs) => {
-            out.push_str("array")?;
-            arguments(out, xs, levels - 1)
+            put(parts, Part::Word("array"))?;
+            arguments(parts, xs)
         }
         Expr::Object(xs) => {
-            out.push_str("object")?;
-            entries(out, xs, levels - 1)
+            put(parts, Part::Word("object"))?;
+            entries(parts, xs)
         }
         Expr::SuperCall(xs) => {
-            out.push_str("super")?;
-            arguments(out, xs, levels - 1)
+            put(parts, Part::Word("super"))?;
+            arguments(parts, xs)
         }
-        _ => operation(out, tree, levels - 1),
+        _ => operation(parts, tree),
     }
 }
 
 /// Adds what stands in the brackets of a node with operands.
-#[cycle(shapes)]
-fn operation(out: &mut String, tree: &Expr, levels: usize) -> Result<(), AllocError> {
-    if levels == 0 {
-        return out.push_str("..");
-    }
+fn operation<'a>(parts: &mut Vec<Part<'a>>, tree: &'a Expr) -> Result<(), AllocError> {
     match tree {
         Expr::StepBefore(op, x) => {
-            out.push_str(step_sign(*op))?;
-            out.push_str("_ ")?;
-            expr(out, x.get(), levels - 1)
+            put(parts, Part::Word(step_sign(*op)))?;
+            put(parts, Part::Word("_ "))?;
+            put(parts, Part::Expr(x.get()))
         }
         Expr::StepAfter(x, op) => {
-            out.push('_')?;
-            out.push_str(step_sign(*op))?;
-            out.push(' ')?;
-            expr(out, x.get(), levels - 1)
+            put(parts, Part::Word("_"))?;
+            put(parts, Part::Word(step_sign(*op)))?;
+            put(parts, Part::Word(" "))?;
+            put(parts, Part::Expr(x.get()))
         }
         Expr::Unary(op, x) => {
-            out.push_str(unary_sign(*op))?;
-            out.push(' ')?;
-            expr(out, x.get(), levels - 1)
+            put(parts, Part::Word(unary_sign(*op)))?;
+            put(parts, Part::Word(" "))?;
+            put(parts, Part::Expr(x.get()))
         }
         Expr::Conditional(x, y, z) => {
-            out.push_str("? ")?;
-            expr(out, x.get(), levels - 1)?;
-            out.push(' ')?;
-            expr(out, y.get(), levels - 1)?;
-            out.push(' ')?;
-            expr(out, z.get(), levels - 1)
+            put(parts, Part::Word("? "))?;
+            put(parts, Part::Expr(x.get()))?;
+            put(parts, Part::Word(" "))?;
+            put(parts, Part::Expr(y.get()))?;
+            put(parts, Part::Word(" "))?;
+            put(parts, Part::Expr(z.get()))
         }
         Expr::Assign(x, op, y) => {
-            out.push_str(assign_sign(*op))?;
-            out.push(' ')?;
-            expr(out, x.get(), levels - 1)?;
-            out.push(' ')?;
-            expr(out, y.get(), levels - 1)
+            put(parts, Part::Word(assign_sign(*op)))?;
+            put(parts, Part::Word(" "))?;
+            put(parts, Part::Expr(x.get()))?;
+            put(parts, Part::Word(" "))?;
+            put(parts, Part::Expr(y.get()))
         }
-        _ => longer(out, tree, levels - 1),
+        _ => longer(parts, tree),
     }
 }
 
 /// Adds what stands in the brackets of a node with a list.
-#[cycle(shapes)]
-fn longer(out: &mut String, tree: &Expr, levels: usize) -> Result<(), AllocError> {
-    if levels == 0 {
-        return out.push_str("..");
-    }
+fn longer<'a>(parts: &mut Vec<Part<'a>>, tree: &'a Expr) -> Result<(), AllocError> {
     match tree {
         Expr::New(x, xs, None) => {
-            out.push_str("new ")?;
-            expr(out, x.get(), levels - 1)?;
-            suffixes(out, xs, levels - 1)
+            put(parts, Part::Word("new "))?;
+            put(parts, Part::Expr(x.get()))?;
+            suffixes(parts, xs)
         }
         Expr::New(x, xs, Some(zs)) => {
-            out.push_str("new ")?;
-            expr(out, x.get(), levels - 1)?;
-            suffixes(out, xs, levels - 1)?;
-            out.push_str(" with")?;
-            arguments(out, zs, levels - 1)
+            put(parts, Part::Word("new "))?;
+            put(parts, Part::Expr(x.get()))?;
+            suffixes(parts, xs)?;
+            put(parts, Part::Word(" with"))?;
+            arguments(parts, zs)
         }
         Expr::Left(x, xs) => {
-            out.push_str("left ")?;
-            expr(out, x.get(), levels - 1)?;
-            suffixes(out, xs, levels - 1)
+            put(parts, Part::Word("left "))?;
+            put(parts, Part::Expr(x.get()))?;
+            suffixes(parts, xs)
         }
-        Expr::Chain(_, _) => chain(out, tree, levels - 1),
+        Expr::Chain(_, _) => chain(parts, tree),
         Expr::Comma(x, xs) => {
-            out.push_str(", ")?;
-            expr(out, x.get(), levels - 1)?;
+            put(parts, Part::Word(", "))?;
+            put(parts, Part::Expr(x.get()))?;
             for y in xs.as_slice() {
-                out.push(' ')?;
-                expr(out, y, levels - 1)?;
+                put(parts, Part::Word(" "))?;
+                put(parts, Part::Expr(y))?;
             }
             Ok(())
         }
-        _ => arrow(out, tree, levels - 1),
+        _ => arrow(parts, tree),
     }
 }
 
 /// Adds what stands in the brackets of a chain: grouped to the left, as it is meant.
-#[cycle(shapes)]
-fn chain(out: &mut String, tree: &Expr, levels: usize) -> Result<(), AllocError> {
+fn chain<'a>(parts: &mut Vec<Part<'a>>, tree: &'a Expr) -> Result<(), AllocError> {
     let Expr::Chain(x, operands) = tree else {
         return Ok(());
     };
-    if levels == 0 {
-        return out.push_str("..");
-    }
     let mut is_outermost = true;
     for operand in operands.as_slice().iter().rev() {
         if !is_outermost {
-            out.push('(')?;
+            put(parts, Part::Word("("))?;
         }
         is_outermost = false;
-        out.push_str(binary_sign(operand.op))?;
-        out.push(' ')?;
+        put(parts, Part::Word(binary_sign(operand.op)))?;
+        put(parts, Part::Word(" "))?;
     }
-    expr(out, x.get(), levels - 1)?;
+    put(parts, Part::Expr(x.get()))?;
     let mut is_innermost = true;
     for operand in operands.as_slice() {
         if !is_innermost {
-            out.push(')')?;
+            put(parts, Part::Word(")"))?;
         }
         is_innermost = false;
-        out.push(' ')?;
-        expr(out, &operand.right, levels - 1)?;
+        put(parts, Part::Word(" "))?;
+        put(parts, Part::Expr(&operand.right))?;
     }
     Ok(())
 }
 
 /// Adds what stands in the brackets of an arrow function or a `yield`.
-#[cycle(shapes)]
-fn arrow(out: &mut String, tree: &Expr, levels: usize) -> Result<(), AllocError> {
-    if levels == 0 {
-        return out.push_str("..");
-    }
+fn arrow<'a>(parts: &mut Vec<Part<'a>>, tree: &'a Expr) -> Result<(), AllocError> {
     match tree {
-        Expr::Yield(None) => out.push_str("yield"),
+        Expr::Yield(None) => put(parts, Part::Word("yield")),
         Expr::Yield(Some(x)) => {
-            out.push_str("yield ")?;
-            expr(out, x.get(), levels - 1)
+            put(parts, Part::Word("yield "))?;
+            put(parts, Part::Expr(x.get()))
         }
         Expr::Arrow(is_async, ps, x) => {
-            out.push_str(if *is_async { "async=> " } else { "=> " })?;
-            params(out, ps, levels - 1)?;
-            out.push(' ')?;
-            expr(out, x.get(), levels - 1)
+            put(
+                parts,
+                Part::Word(if *is_async { "async=> " } else { "=> " }),
+            )?;
+            params(parts, ps)?;
+            put(parts, Part::Word(" "))?;
+            put(parts, Part::Expr(x.get()))
         }
         Expr::ArrowBlock(is_async, ps, body) => {
-            out.push_str(if *is_async { "async=> " } else { "=> " })?;
-            params(out, ps, levels - 1)?;
-            range(out, *body)
+            put(
+                parts,
+                Part::Word(if *is_async { "async=> " } else { "=> " }),
+            )?;
+            params(parts, ps)?;
+            put(parts, Part::Body(*body))
         }
         _ => Ok(()),
     }
 }
 
 /// Adds arguments, each behind a space.
-#[cycle(shapes)]
-fn arguments(out: &mut String, xs: &Items<Argument>, levels: usize) -> Result<(), AllocError> {
-    if levels == 0 {
-        return out.push_str("..");
-    }
+fn arguments<'a>(parts: &mut Vec<Part<'a>>, xs: &'a Items<Argument>) -> Result<(), AllocError> {
     for x in xs.as_slice() {
-        out.push(' ')?;
+        put(parts, Part::Word(" "))?;
         match x {
-            Argument::One(value) => expr(out, value, levels - 1)?,
+            Argument::One(value) => put(parts, Part::Expr(value))?,
             Argument::Spread(value) => {
-                out.push_str("...")?;
-                expr(out, value, levels - 1)?;
+                put(parts, Part::Word("..."))?;
+                put(parts, Part::Expr(value))?;
             }
         }
     }
@@ -234,243 +208,54 @@ fn arguments(out: &mut String, xs: &Items<Argument>, levels: usize) -> Result<()
 }
 
 /// Adds entries of an object, each behind a space.
-#[cycle(shapes)]
-fn entries(out: &mut String, xs: &Items<Entry>, levels: usize) -> Result<(), AllocError> {
-    if levels == 0 {
-        return out.push_str("..");
-    }
+fn entries<'a>(parts: &mut Vec<Part<'a>>, xs: &'a Items<Entry>) -> Result<(), AllocError> {
     for x in xs.as_slice() {
-        out.push(' ')?;
+        put(parts, Part::Word(" "))?;
         match x {
             Entry::Spread(value) => {
-                out.push_str("...")?;
-                expr(out, value, levels - 1)?;
+                put(parts, Part::Word("..."))?;
+                put(parts, Part::Expr(value))?;
             }
-            Entry::Shorthand(text) => name(out, text)?,
+            Entry::Shorthand(text) => put(parts, Part::Name(text))?,
             Entry::Pair(w, value) => {
-                key(out, w, levels - 1)?;
-                out.push(':')?;
-                expr(out, value, levels - 1)?;
+                key(parts, w)?;
+                put(parts, Part::Word(":"))?;
+                put(parts, Part::Expr(value))?;
             }
-            Entry::Method(m) => method(out, m, levels - 1)?,
+            Entry::Method(m) => method(parts, m)?,
         }
     }
     Ok(())
 }
 
-/// Adds a key.
-#[cycle(shapes)]
-fn key(out: &mut String, w: &Key, levels: usize) -> Result<(), AllocError> {
-    if levels == 0 {
-        return out.push_str("..");
-    }
-    match w {
-        Key::Word(text) => name(out, text),
-        Key::Text(text) => quoted(out, text),
-        Key::Number(value) => {
-            write!(out, "{}", *value)?;
-            Ok(())
-        }
-        Key::Computed(x) => {
-            out.push('[')?;
-            expr(out, x.get(), levels - 1)?;
-            out.push(']')
-        }
-    }
-}
-
 /// Adds suffixes, each behind a space.
-#[cycle(shapes)]
-fn suffixes(out: &mut String, xs: &Items<Suffix>, levels: usize) -> Result<(), AllocError> {
-    if levels == 0 {
-        return out.push_str("..");
-    }
+fn suffixes<'a>(parts: &mut Vec<Part<'a>>, xs: &'a Items<Suffix>) -> Result<(), AllocError> {
     for x in xs.as_slice() {
-        out.push(' ')?;
-        suffix(out, x, levels - 1)?;
+        put(parts, Part::Word(" "))?;
+        suffix(parts, x)?;
     }
     Ok(())
 }
 
 /// Adds a suffix, behind `?` where `?.` stands before it.
-#[cycle(shapes)]
-fn suffix(out: &mut String, x: &Suffix, levels: usize) -> Result<(), AllocError> {
-    if levels == 0 {
-        return out.push_str("..");
-    }
+fn suffix<'a>(parts: &mut Vec<Part<'a>>, x: &'a Suffix) -> Result<(), AllocError> {
     match x {
         Suffix::Member(optional, text) => {
-            out.push_str(if *optional { "?." } else { "." })?;
-            name(out, text)
+            put(parts, Part::Word(if *optional { "?." } else { "." }))?;
+            put(parts, Part::Name(text))
         }
         Suffix::Index(optional, value) => {
-            out.push_str(if *optional { "?[" } else { "[" })?;
-            expr(out, value, levels - 1)?;
-            out.push(']')
+            put(parts, Part::Word(if *optional { "?[" } else { "[" }))?;
+            put(parts, Part::Expr(value))?;
+            put(parts, Part::Word("]"))
         }
         Suffix::Call(optional, xs) => {
-            out.push_str(if *optional { "(?call" } else { "(call" })?;
-            arguments(out, xs, levels - 1)?;
-            out.push(')')
-        }
-    }
-}
-
-/// Adds a function.
-#[cycle(shapes)]
-fn function(out: &mut String, f: &Function, levels: usize) -> Result<(), AllocError> {
-    if levels == 0 {
-        return out.push_str("..");
-    }
-    out.push('(')?;
-    out.push_str(flow_sign(f.flow))?;
-    out.push_str("function ")?;
-    if let Some(text) = &f.name {
-        name(out, text)?;
-        out.push(' ')?;
-    }
-    params(out, &f.params, levels - 1)?;
-    range(out, f.body)?;
-    out.push(')')
-}
-
-/// Adds a method.
-#[cycle(shapes)]
-fn method(out: &mut String, m: &Method, levels: usize) -> Result<(), AllocError> {
-    if levels == 0 {
-        return out.push_str("..");
-    }
-    out.push('(')?;
-    out.push_str(flow_sign(m.flow))?;
-    out.push_str("method ")?;
-    key(out, &m.key, levels - 1)?;
-    out.push(' ')?;
-    params(out, &m.params, levels - 1)?;
-    range(out, m.body)?;
-    out.push(')')
-}
-
-/// Adds a class.
-#[cycle(shapes)]
-fn class(out: &mut String, c: &Class, levels: usize) -> Result<(), AllocError> {
-    if levels == 0 {
-        return out.push_str("..");
-    }
-    out.push_str("(class")?;
-    if let Some(text) = &c.name {
-        out.push(' ')?;
-        name(out, text)?;
-    }
-    if let Some(parent) = &c.parent {
-        out.push_str(" from ")?;
-        expr(out, parent.get(), levels - 1)?;
-    }
-    for member in c.members.as_slice() {
-        out.push_str(if member.is_static { " static " } else { " " })?;
-        method(out, &member.method, levels - 1)?;
-    }
-    out.push(')')
-}
-
-/// Adds parameters.
-#[cycle(shapes)]
-pub fn params(out: &mut String, ps: &Params, levels: usize) -> Result<(), AllocError> {
-    if levels == 0 {
-        return out.push_str("..");
-    }
-    out.push('(')?;
-    elems(out, &ps.elems, levels - 1)?;
-    if let Some(rest) = &ps.rest {
-        out.push_str(" ...")?;
-        target(out, rest.get(), levels - 1)?;
-    }
-    out.push(')')
-}
-
-/// Adds targets with their defaults, a space between.
-#[cycle(shapes)]
-fn elems(out: &mut String, xs: &Items<Elem>, levels: usize) -> Result<(), AllocError> {
-    if levels == 0 {
-        return out.push_str("..");
-    }
-    let mut is_first = true;
-    for x in xs.as_slice() {
-        if !is_first {
-            out.push(' ')?;
-        }
-        is_first = false;
-        elem(out, x, levels - 1)?;
-    }
-    Ok(())
-}
-
-/// Adds a target and its default.
-#[cycle(shapes)]
-fn elem(out: &mut String, x: &Elem, levels: usize) -> Result<(), AllocError> {
-    if levels == 0 {
-        return out.push_str("..");
-    }
-    target(out, &x.target, levels - 1)?;
-    if let Some(value) = &x.default {
-        out.push('=')?;
-        expr(out, value.get(), levels - 1)?;
-    }
-    Ok(())
-}
-
-/// Adds a target.
-#[cycle(shapes)]
-pub fn target(out: &mut String, x: &Target, levels: usize) -> Result<(), AllocError> {
-    if levels == 0 {
-        return out.push_str("..");
-    }
-    match x {
-        Target::Name(text) => name(out, text),
-        Target::Object(xs, rest) => {
-            out.push('{')?;
-            props(out, xs, levels - 1)?;
-            rest_name(out, rest)?;
-            out.push('}')
-        }
-        Target::Array(xs, rest) => {
-            out.push('[')?;
-            elems(out, xs, levels - 1)?;
-            rest_name(out, rest)?;
-            out.push(']')
-        }
-    }
-}
-
-/// Adds properties of a pattern, each behind a space.
-#[cycle(shapes)]
-fn props(out: &mut String, xs: &Items<Prop>, levels: usize) -> Result<(), AllocError> {
-    if levels == 0 {
-        return out.push_str("..");
-    }
-    for x in xs.as_slice() {
-        out.push(' ')?;
-        prop(out, x, levels - 1)?;
-    }
-    Ok(())
-}
-
-/// Adds a property of a pattern.
-#[cycle(shapes)]
-fn prop(out: &mut String, x: &Prop, levels: usize) -> Result<(), AllocError> {
-    if levels == 0 {
-        return out.push_str("..");
-    }
-    match x {
-        Prop::Shorthand(text, None) => name(out, text),
-        Prop::Shorthand(text, Some(value)) => {
-            name(out, text)?;
-            out.push('=')?;
-            expr(out, value.get(), levels - 1)
-        }
-        Prop::Pair(w, bound) => {
-            key(out, w, levels - 1)?;
-            out.push(':')?;
-            elem(out, bound, levels - 1)
+            put(
+                parts,
+                Part::Word(if *optional { "(?call" } else { "(call" }),
+            )?;
+            arguments(parts, xs)?;
+            put(parts, Part::Word(")"))
         }
     }
 }

@@ -1,7 +1,8 @@
 //! Reads the tables.
 
+use crate::parts::Part;
 use crate::rows::{ASSIGNS, EXPRESSIONS, LEFTS, PARAMS, TARGETS};
-use crate::shapes;
+use crate::words;
 use actx_expr::{assign, expression, left, params, target};
 use actx_grammar::ParseError;
 use actx_lex::{Token, tokens};
@@ -56,7 +57,7 @@ fn show(alloc: Global, out: &mut String, call: Call, found: &[Token]) -> Result<
     };
     match answer {
         Ok((tree, place)) => {
-            shapes::expr(out, &tree, 1000)?;
+            words::show(alloc, out, Part::Expr(&tree))?;
             left_over(out, found, place)
         }
         Err(error) => refusal(out, error),
@@ -73,7 +74,7 @@ fn show_bound(
     if let Call::Target = call {
         match target(alloc, found, 0, 0) {
             Ok((tree, place)) => {
-                shapes::target(out, &tree, 1000)?;
+                words::show(alloc, out, Part::Target(&tree))?;
                 left_over(out, found, place)
             }
             Err(error) => refusal(out, error),
@@ -81,7 +82,7 @@ fn show_bound(
     } else {
         match params(alloc, found, 0, 0) {
             Ok((tree, place)) => {
-                shapes::params(out, &tree, 1000)?;
+                words::show(alloc, out, Part::Params(&tree))?;
                 left_over(out, found, place)
             }
             Err(error) => refusal(out, error),

@@ -1,11 +1,16 @@
-//! Words of shapes.
+//! Short texts.
 
+use crate::binds::{params, target};
+use crate::parts::{Part, put, put_before};
+use crate::shapes::expr;
 use actx_text::{Units, as_units};
-use actx_tree::Unread;
-use std::alloc::AllocError;
+use std::alloc::{AllocError, Global};
+
+/// How many parts are shown at most.
+const MOST_PARTS: usize = 100_000;
 
 /// Adds units, those outside of ASCII as `?`.
-pub fn name(out: &mut String, text: &Units) -> Result<(), AllocError> {
+fn name(out: &mut String, text: &Units) -> Result<(), AllocError> {
     for unit in as_units(text) {
         if 32 <= *unit && *unit < 127 {
             out.push(*unit as u8 as char)?;
@@ -16,26 +21,51 @@ pub fn name(out: &mut String, text: &Units) -> Result<(), AllocError> {
     Ok(())
 }
 
-/// Adds units between quotes.
-pub fn quoted(out: &mut String, text: &Units) -> Result<(), AllocError> {
-    out.push('\'')?;
-    name(out, text)?;
-    out.push('\'')
-}
-
-/// Adds how many tokens lie between the braces of a body, the closing one counted.
-pub fn range(out: &mut String, body: Unread) -> Result<(), AllocError> {
-    write!(out, " <{}>", body.from.saturating_sub(body.to))?;
-    Ok(())
-}
-
-/// Adds the name behind `...`, if there is one.
-pub fn rest_name(out: &mut String, rest: &Option<Units>) -> Result<(), AllocError> {
-    match rest {
-        Some(text) => {
-            out.push_str(" ...")?;
-            name(out, text)
+/// Adds a part that stands for no others. Of a body it is how many tokens lie between its braces, the
+/// closing one counted.
+fn word(out: &mut String, part: Part<'_>) -> Result<(), AllocError> {
+    match part {
+        Part::Word(text) => out.push_str(text),
+        Part::Name(text) => name(out, text),
+        Part::Quoted(text) => {
+            out.push('\'')?;
+            name(out, text)?;
+            out.push('\'')
         }
-        None => Ok(()),
+        Part::Number(value) => {
+            write!(out, "{}", value)?;
+            Ok(())
+        }
+        Part::Body(body) => {
+            write!(out, " <{}>", body.from.saturating_sub(body.to))?;
+            Ok(())
+        }
+        Part::Expr(_) | Part::Target(_) | Part::Params(_) => Ok(()),
     }
+}
+
+/// The parts that a part stands for, if it does.
+fn inner_parts<'a>(alloc: Global, part: Part<'a>) -> Result<Vec<Part<'a>>, AllocError> {
+    let mut parts = Vec::new(alloc);
+    match part {
+        Part::Expr(tree) => expr(&mut parts, tree)?,
+        Part::Target(tree) => target(&mut parts, tree)?,
+        Part::Params(tree) => params(&mut parts, tree)?,
+        _ => {}
+    }
+    Ok(parts)
+}
+
+/// Adds the text of a part.
+pub fn show(alloc: Global, out: &mut String, part: Part<'_>) -> Result<(), AllocError> {
+    let mut left = Vec::new(alloc);
+    put(&mut left, part)?;
+    for _turn in 0..MOST_PARTS {
+        let Some(next) = left.pop() else {
+            return Ok(());
+        };
+        word(out, next)?;
+        put_before(&mut left, inner_parts(alloc, next)?)?;
+    }
+    out.push_str("..")
 }

@@ -13,3 +13,6 @@ mod tries;
 mod within;
 
 pub use knot::read_items;
+
+#[cfg(test)]
+mod tests;

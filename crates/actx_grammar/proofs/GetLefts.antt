@@ -30,7 +30,7 @@ use Rattle.actx_grammar.proofs.Past.{shorter}
 use Rattle.actx_grammar.proofs.PastLines.{past-argument, past-entry, past-suffix, past-member_suffix, past-expr}
 use Rattle.actx_grammar.proofs.Following.{after, after_is, no_suffix}
 use Rattle.actx_grammar.proofs.Firsts.{first-argument, first-entry, first-assign, first-primary, first-async_function, not_dots, not_new, method_not_dots, key_no_dots}
-use Rattle.actx_grammar.proofs.Gets.{Gets, got, along, yes, no, take, seq, node, done, fitting, next_of, skipped, expected, closed, tested_left, Run, run-none, run-more, many_gets, Row, row-none, row-last, row-more, row_gets}
+use Rattle.actx_grammar.proofs.Gets.{Gets, got, along, yes, no, take, seq, node, done, fitting, fitted, next_of, skipped, expected, closed, tested_left, Run, run-none, run-more, many_gets, Row, row-none, row-last, row-more, row_gets}
 use Rattle.actx_grammar.proofs.Parts.{name_is, number_is, text_is, opening_is, piece_is, word_is, method_head_is}
 use Rattle.actx_grammar.proofs.Completes.{Completes}
 use Rattle.actx_grammar.proofs.GetPatterns.{after_closing, closes_next, after_comma, get-function, get-class, get-key, get-method_tail}
@@ -104,9 +104,9 @@ module _ (inner : Inner) (sub : Completes inner) where
       take _ _ (expected is_open_parenthesis t a e refl) (seq _ _ (get-arguments bracket.Round d (closed_next bracket.Round u b c)) (λ _. take _ _ (closed bracket.Round u b c) (done _ _)) (omega arith))
 
   get-entry : {x : Entry} {h : ℕ} {a b : Tokens} → SpEntry x h a b → 11 < after b → Gets inner.room h (r.entry inner a) (x, h) b
-  unfolding r.entry r.spread_entry r.keyed r.pair_or_method
+  unfolding r.entry r.spread_entry r.named_entry r.keyed r.pair_or_method
   get-entry (entry-spread {t = t} {a = a} e d) l = yes _ _ (ap is_dots (next_of t a e)) (take _ _ (skipped t a) (seq _ _ (sub.assign d l) (λ _. done _ _) (omega arith)))
-  get-entry (entry-name {t = t} {b = b} e q) l = no _ _ (ap is_dots (next_of t b (ap kind_of e))) (yes _ _ q (take _ _ (name_is t b e) (done _ _)))
+  get-entry (entry-name {t = t} {b = b} e q) l = no _ _ (ap is_dots (next_of t b (ap kind_of e))) (yes _ _ q (fitted inner 1 _ _ (take _ _ (name_is t b e) (done _ _))))
   get-entry (entry-pair {t = t} {h = h} {i = i} {m = m} s f w e d) l = no _ _ (key_no_dots w) (no _ _ s (take _ _ (method_head_is (method_head-plain f)) (seq {i = i} _ _ (get-key inner sub w)
       (λ _. yes (is_colon (next (t ∷ m)) && true) _ (ap (λ z. is_colon z && true) (next_of t m e)) (take _ _ (skipped t m) (seq _ _ (sub.assign d l) (λ _. done _ _) (omega arith)))) refl)))
   get-entry (entry-method {a = a} s d) l = no _ _ (method_not_dots d) (no _ _ s (method_entry d))

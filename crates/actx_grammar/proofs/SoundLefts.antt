@@ -51,7 +51,7 @@ args_of (taken {t = t} e) d (taken {t = u} f) = args (is.open_parenthesis (kind_
 spread_entry : {x : Expr} {h : ℕ} {a m b : Tokens} → Taken is_dots a m → SpAssign x h m b → SpEntry (an_entry.Spread x) h a b
 spread_entry (taken {t = t} e) d = entry-spread (is.dots (kind_of t.kind) e) d
 
-named_entry : {n : Units} {a b : Tokens} → Token_of (k.Name n) a b → is_shorthand a ≡ true → SpEntry (an_entry.Shorthand n) 0 a b
+named_entry : {n : Units} {a b : Tokens} → Token_of (k.Name n) a b → is_shorthand a ≡ true → SpEntry (an_entry.Shorthand n) 1 a b
 named_entry (token_of e) q = entry-name e q
 
 plain_flow : (f : Flow) → r.is_plain f ≡ true → f ≡ flow.Plain
@@ -137,10 +137,10 @@ module _ (inner : Inner) (sub : Sounds inner) where
       (λ _. bind _ _ (sound-method_tail inner sub f w q) (λ x b z. done _ _ (record { low = z.low; is = entry-method n (z.is d c.is) })))))
 
   sound-entry : (a : Tokens) → Holds (Low inner.room SpEntry a) (r.entry inner a)
-  unfolding r.entry r.spread_entry
+  unfolding r.entry r.spread_entry r.named_entry
   sound-entry a = branch (is_dots (next a))
       (λ e. step _ _ _ (bind _ _ (sub.assign (behind a)) (λ x b d. done _ _ (record { low = d.low; is = spread_entry (taken_if is_dots a refl e) d.is }))))
-      (λ _. branch (is_shorthand a) (λ q. bind _ _ (sound-name a) (λ n b d. done _ _ (record { low = omega arith; is = named_entry d q }))) (λ q. sound-keyed a q))
+      (λ _. branch (is_shorthand a) (λ q. fit inner 1 a _ (λ l. bind _ _ (sound-name a) (λ n b d. done _ _ (record { low = l; is = named_entry d q })))) (λ q. sound-keyed a q))
 
   sound-entries : (a : Tokens) → Holds (Low inner.room SpEntries a) (r.entries inner a)
   unfolding r.entries

@@ -370,7 +370,7 @@ mutual
   pub data SpEntry : Entry → ℕ → Tokens → Tokens → Type 0 where
     entry-spread : {t : Token} {x : Expr} {h : ℕ} {a b : Tokens} → Is (kind.Sign p.Ellipsis) t → SpAssign x h a b
         → SpEntry (entry.Spread x) h (t ∷ a) b
-    entry-name : {t : Token} {n : Units} {b : Tokens} → t.kind ≡ k.Name n → is_shorthand (t ∷ b) ≡ true → SpEntry (entry.Shorthand n) 0 (t ∷ b) b
+    entry-name : {t : Token} {n : Units} {b : Tokens} → t.kind ≡ k.Name n → is_shorthand (t ∷ b) ≡ true → SpEntry (entry.Shorthand n) 1 (t ∷ b) b
     entry-pair : {t : Token} {w : Key} {x : Expr} {h i : ℕ} {a m b : Tokens} → is_shorthand a ≡ false → method_flow a ≡ flow.Plain
         → SpKey w h a (t ∷ m) → Is (kind.Sign p.Colon) t → SpAssign x i m b → SpEntry (entry.Pair w x) (max h i) a b
     entry-method : {x : Method} {h : ℕ} {a b : Tokens} → is_shorthand a ≡ false → SpMethod x h a b → SpEntry (entry.Method x) h a b

@@ -111,9 +111,16 @@ module _ (inner : Inner) where
     x ← inner.read line.Assign
     pure (an_entry.Spread x.0, x.1)
 
+  -- A name alone stands for a key and a value, and the value is a node.
+  unfoldable pub named_entry : Parser (Read Entry)
+  named_entry = do
+    fits inner 1
+    n ← name
+    pure (an_entry.Shorthand n, 1)
+
   unfoldable pub entry : Parser (Read Entry)
   entry = λ i. if is_dots (next i) then spread_entry i else
-      (if is_shorthand i then (name >>= (λ n. pure (an_entry.Shorthand n, 0))) i else keyed i)
+      (if is_shorthand i then named_entry i else keyed i)
 
   unfoldable pub entries : Parser (Read (List Entry))
   entries = λ i. row_from bracket.Curly (closes bracket.Curly) entry (count i) [] 0 i

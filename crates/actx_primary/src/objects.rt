@@ -79,6 +79,23 @@ pub fn spread_entry<
     Ok((Entry::Spread(value), levels))
 }
 
+/// A name that is an entry alone. It stands for a key and a value, and the value is a node.
+///
+/// # Errors
+/// `TooNested` where no node fits; `NoTree` where no name stands; `Memory`.
+#[tactic(auto, unfolding(actx_grammar::specs::Lines::named_entry, actx_grammar::specs::Reader::and_then))]
+fn named_entry<
+    F: Fn(Global, &mut Cursor<'_>, usize, Line) -> Result<(Expr, usize), Cause>,
+    G: Fn(Global, &mut Cursor<'_>, usize) -> Result<(Target, usize), Cause>,
+>(inner: &Inner<F, G>, cursor: &mut Cursor<'_>) -> Result<(Entry, usize), Cause>
+    ensures reads { Reads (spec.named_entry (spec.below inner.now.room) cursor.old) result cursor.new }
+    ensures low { IfOk result (λ x. x.1 ≤ inner.now.room) }
+{
+    inner.fits(1)?;
+    let name = cursor.name(inner.alloc)?;
+    Ok((Entry::Shorthand(name), 1))
+}
+
 /// An entry of an object.
 ///
 /// # Errors
@@ -96,7 +113,7 @@ pub fn entry<
         return spread_entry(inner, cursor);
     }
     if cursor.is_shorthand() {
-        return Ok((Entry::Shorthand(cursor.name(inner.alloc)?), 0));
+        return named_entry(inner, cursor);
     }
     keyed(inner, cursor)
 }

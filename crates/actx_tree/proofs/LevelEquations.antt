@@ -156,7 +156,7 @@ pub entry_levels-Spread : (x : Expr) → entry_levels (entry.Spread x) ≡ expr_
 unfolding entry_levels expr_levels
 entry_levels-Spread x = simp the_lemmas
 
-pub entry_levels-Shorthand : (name : Units) → entry_levels (entry.Shorthand name) ≡ 0
+pub entry_levels-Shorthand : (name : Units) → entry_levels (entry.Shorthand name) ≡ 1
 unfolding entry_levels
 entry_levels-Shorthand name = simp the_lemmas
 

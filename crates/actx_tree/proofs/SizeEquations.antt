@@ -157,7 +157,7 @@ pub entry_size-Spread : (x : Expr) → entry_size (entry.Spread x) ≡ expr_size
 unfolding entry_size expr_size
 entry_size-Spread x = simp the_lemmas
 
-pub entry_size-Shorthand : (name : Units) → entry_size (entry.Shorthand name) ≡ 0
+pub entry_size-Shorthand : (name : Units) → entry_size (entry.Shorthand name) ≡ 1
 unfolding entry_size
 entry_size-Shorthand name = simp the_lemmas
 

@@ -80,7 +80,7 @@ argument_step (Argument-F.Argument::Spread x) = x
 
 abbrev pub entry_step : EntryOf ℕ → ℕ
 entry_step (Entry-F.Entry::Spread x) = x
-entry_step (Entry-F.Entry::Shorthand name) = 0
+entry_step (Entry-F.Entry::Shorthand name) = 1
 entry_step (Entry-F.Entry::Pair key x) = max key x
 entry_step (Entry-F.Method m) = m
 

@@ -5,7 +5,7 @@
 -- Nodes are statements (also a `let` in the head of a `for`), functions, methods, classes, object and array patterns
 -- and expressions (ECMA-262 §13 to §15). A block is one only as a statement, and not as the block of a function, a `try`,
 -- a `catch` or a `finally`. A name that is bound is none. Nor are members of lists, spreads, suffixes, keys, operands
--- and pieces of templates.
+-- and pieces of templates. A name alone in an object, as in `{ a }`, stands for a value, which is one.
 use Rattle.std.specs.Prelude.{ℕ, suc, max, List, [], ◌∷◌, map, Option, Some, None}
 use Rattle.actx_tree.specs.Folds.{Steps, StmtSteps, ExprOf, PieceOf, ArgumentOf, EntryOf, KeyOf, SuffixOf, OperandOf, FunctionOf, MethodOf, ClassOf, MemberOf, TargetOf, PropOf, ElemOf, ParamsOf, StmtOf, CatchOf, fold_expr, fold_piece, fold_argument, fold_entry, fold_key, fold_suffix, fold_operand, fold_function, fold_method, fold_class, fold_member, fold_target, fold_prop, fold_elem, fold_params, fold_stmt, fold_catch}
 use Rattle.actx_tree.specs.declared.expr.Expr.{Expr, Expr-F}

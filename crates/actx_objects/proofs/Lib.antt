@@ -1,0 +1,12 @@
+mod PairLemmas
+mod SameLemmas
+mod StoreLemmas
+mod DropLemmas
+mod SortLemmas
+mod ShownLemmas
+mod ValueLemmas
+mod SliceLemmas
+mod SlotLemmas
+mod FoundLemmas
+mod SeenLemmas
+mod OrderLemmas

@@ -1,0 +1,11 @@
+mod PairLemmas
+mod SameLemmas
+mod StoreLemmas
+mod DropLemmas
+mod SortLemmas
+mod ShownLemmas
+mod ValueLemmas
+mod SliceLemmas
+mod SlotLemmas
+mod FoundLemmas
+mod SeenLemmas

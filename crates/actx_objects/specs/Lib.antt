@@ -1,0 +1,10 @@
+pub mod Kinds
+pub mod Keys
+pub mod Pairs
+pub mod Properties
+pub mod Entries
+pub mod Objects
+pub mod Writes
+pub mod Collections
+pub mod Slots
+pub mod Laws

@@ -22,9 +22,11 @@ pub enum Request {
     Fork {
         scope: ScopeId,
     },
-    /// The first value of a cell of this scope (InitializeBinding, ECMA-262 §9.1.1.1.4).
+    /// The first value of a cell, `hops` scopes further out (InitializeBinding, ECMA-262 §9.1.1.1.4). All
+    /// but `this` behind `super(..)` are initialised in the scope itself, where `hops` is 0.
     Init {
         scope: ScopeId,
+        hops: u32,
         slot: u32,
         value: Value,
     },

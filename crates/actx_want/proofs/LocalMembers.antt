@@ -43,7 +43,7 @@ pub pair_local : (key : Keyed) (e : Meaning) → IsLocalKey key → IsLocal e �
 pair_local key e lk le n p o k l h = lk n p _ _ k l (λ q. le n p _ _ (value_agree (λ v. asks_same (requests.Define o q v) [] n h) h)) h
 
 pub method_local : (key : Keyed) (body : BodyId) → IsLocalKey key → IsLocalAt (method key body)
-method_local key body lk n p o k l h = lk n p _ _ k l (λ q. asks_same (requests.Method body p.scope o) [] n (value_agree (λ v. asks_same (requests.Define o q v) [] n h) h)) h
+method_local key body lk n p o k l h = lk n p _ _ k l (λ q. asks_same (requests.Method body p o) [] n (value_agree (λ v. asks_same (requests.Define o q v) [] n h) h)) h
 
 pub copied_local : (e : Meaning) → IsLocal e → IsLocalAt (copied e)
 copied_local e le n p o k l h = le n p _ _ (value_agree (λ v. asks_same (requests.Copy o v) [] n h) h)
@@ -94,8 +94,8 @@ suffixes_local e ss le all n p k l h = le n p _ _ (value_agree (λ v. given_loca
 
 pub super_member_local : (hops : ℕ) (key : Value) (ss : List Suffixed) → Alls IsLocalSuffix ss → IsLocal (super_member hops key ss)
 super_member_local hops key ss all n p k l h =
-    asks_same (requests.Load p.scope hops 2) [] n
-    (value_agree (λ home. asks_same (requests.Load p.scope hops 0) [] n
+    asks_same (requests.Load p hops 2) [] n
+    (value_agree (λ home. asks_same (requests.Load p hops 0) [] n
     (value_agree (λ this. asks_same (requests.SuperGet home key this) [] n (value_agree (λ v. given_local ss all n p h this v) h)) h)) h)
 
 pub delete_local : (e : Meaning) (ss : List Suffixed) (optional : Bool) (key : Keyed) → IsLocal e → Alls IsLocalSuffix ss → IsLocalKey key → IsLocal (delete e ss optional key)
@@ -111,6 +111,6 @@ new_local e ms le all n p k l h =
 
 pub super_call_local : (hops : ℕ) (ms : List Listed) → Alls IsLocalMember ms → IsLocal (super_call hops ms)
 super_call_local hops ms all n p k l h =
-    asks_same (requests.Load p.scope hops 1) [] n
+    asks_same (requests.Load p hops 1) [] n
     (value_agree (λ f. listed_local ms all p n [] _ _ k l
-    (λ d. asks_same (requests.SuperCall f) d n (value_agree (λ v. asks_same (requests.Init p.start 0 v) [] n (keeping_agree v n h)) h)) h) h)
+    (λ d. asks_same (requests.SuperCall f) d n (value_agree (λ v. asks_same (requests.Init p hops 0 v) [] n (keeping_agree v n h)) h)) h) h)

@@ -18,10 +18,10 @@ use Rattle.actx_want.proofs.Local.{asks_same, value_agree, keeping_agree, if_sam
 -- ---- names
 
 pub name_access : (p : Place) (hops i : ℕ) → IsLocalAccess (name_at p hops i)
-name_access p hops i = record { read = λ n k l h. asks_same (requests.Load p.scope hops i) [] n h; write = λ n v k l h. asks_same (requests.Store p.scope hops i v) [] n h }
+name_access p hops i = record { read = λ n k l h. asks_same (requests.Load p hops i) [] n h; write = λ n v k l h. asks_same (requests.Store p hops i v) [] n h }
 
 pub name_local : (hops i : ℕ) → IsLocal (name hops i)
-name_local hops i n p k l h = asks_same (requests.Load p.scope hops i) [] n h
+name_local hops i n p k l h = asks_same (requests.Load p hops i) [] n h
 
 pub change_name_local : (hops i : ℕ) (c : Changing) → IsLocalChange c → IsLocal (change_name hops i c)
 change_name_local hops i c lc n p k l h = lc (name_at p hops i) (name_access p hops i) n p k l h

@@ -18,7 +18,7 @@ use Rattle.actx_want.proofs.LocalMembers.{collected_same}
 -- ---- functions
 
 pub function_local : (body : BodyId) → IsLocal (function body)
-function_local body n p k l h = asks_same (requests.Function body p.scope) [] n h
+function_local body n p k l h = asks_same (requests.Function body p) [] n h
 
 pub binding_agree : (b : Binding) → IsLocalAt b → (n : ℕ) (p : Place) {k l : Next'} → Agree n k l → Agree n (binding b p k) (binding b p l)
 binding_agree b lb n p h = value_agree (λ v. lb n p v _ _ h) h
@@ -41,7 +41,7 @@ awaited_local e le n p k l h = le n p _ _ (value_agree (λ v. asks_same (request
 -- ---- patterns
 
 pub slot_local : (i : ℕ) → IsLocalAt (slot i)
-slot_local i n p v k l h = asks_same (requests.Init p.scope i v) [] n h
+slot_local i n p v k l h = asks_same (requests.Init p 0 i v) [] n h
 
 -- where there is one
 abbrev pub IsLocalIn : Option Meaning → Type 0
@@ -119,7 +119,7 @@ members_of_local : (ms : List ClassMember) (f o : Value) → IsLocal (members_of
 unfolding members_of
 members_of_local [] f o n p k l h = h (Normal f)
 members_of_local (m ∷ ms) f o n p k l h =
-    asks_same (requests.Method m.body p.scope (home_of m f o)) [] n
+    asks_same (requests.Method m.body p (home_of m f o)) [] n
     (value_agree (λ v. asks_same (requests.DefineMethod (home_of m f o) m.key v) [] n (before_agree n (members_of_local ms f o n p k l h) h)) h)
 
 class_made_agree : (key : Value) (ms : List ClassMember) (n : ℕ) (p : Place) {k l : Next'} → Agree n k l → Agree n (class_made key ms p k) (class_made key ms p l)
@@ -127,6 +127,6 @@ class_made_agree key ms n p h =
     value_agree (λ f. if_same (stands_on_prototype ms) (asks_same (requests.Get f key) [] n (value_agree (λ o. members_of_local ms f o n p _ _ h) h)) (members_of_local ms f f n p _ _ h)) h
 
 pub class_local : (c : BodyId) (parent : Option Meaning) (key : Value) (ms : List ClassMember) → IsLocalIn parent → IsLocal (class c parent key ms)
-class_local c None key ms lp n p k l h = asks_same (requests.Class c p.scope None) [] n (class_made_agree key ms n p h)
+class_local c None key ms lp n p k l h = asks_same (requests.Class c p None) [] n (class_made_agree key ms n p h)
 class_local c (Some e) key ms lp n p k l h =
-    lp n p _ _ (value_agree (λ v. asks_same (requests.Class c p.scope (Some v)) [] n (class_made_agree key ms n p h)) h)
+    lp n p _ _ (value_agree (λ v. asks_same (requests.Class c p (Some v)) [] n (class_made_agree key ms n p h)) h)

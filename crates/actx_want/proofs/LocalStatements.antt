@@ -29,18 +29,18 @@ pub if_local : (t a b : Meaning) → IsLocal t → IsLocal a → IsLocal b → I
 if_local t a b lt la lb n p k l h = lt n p _ _ (value_agree (λ v. if_same (truth_of v) (la n p k l h) (lb n p k l h)) h)
 
 pub init_local : (i : ℕ) (e : Meaning) → IsLocal e → IsLocal (init i e)
-init_local i e le n p k l h = le n p _ _ (value_agree (λ v. asks_same (requests.Init p.scope i v) [] n (keeping_agree v n h)) h)
+init_local i e le n p k l h = le n p _ _ (value_agree (λ v. asks_same (requests.Init p 0 i v) [] n (keeping_agree v n h)) h)
 
 declared_same : (fs : List Declared) (n : ℕ) (p : Place) {r s : Run} {k l : Next'} → Same n r s → Agree n k l → Same n (declared_of fs p r k) (declared_of fs p s l)
 unfolding declared_of
 declared_same [] n p rs h = rs
 declared_same (f ∷ fs) n p rs h =
-    asks_same (requests.Function f.body p.scope) [] n
-    (value_agree (λ v. asks_same (requests.Init p.scope f.slot v) [] n (before_agree n (declared_same fs n p rs h) h)) h)
+    asks_same (requests.Function f.body p) [] n
+    (value_agree (λ v. asks_same (requests.Init p 0 f.slot v) [] n (before_agree n (declared_same fs n p rs h) h)) h)
 
 pub block_local : (cells : ℕ) (fs : List Declared) (e : Meaning) → IsLocal e → IsLocal (block cells fs e)
 block_local cells fs e le n p k l h =
-    asks_same (requests.Scope p.scope cells) [] n (value_agree (λ s. declared_same fs n (within p s) (le n (within p s) k l h) h) h)
+    asks_same (requests.Scope p cells) [] n (value_agree (λ s. declared_same fs n (within p s) (le n (within p s) k l h) h) h)
 
 pub returned_local : (e : Meaning) → IsLocal e → IsLocal (returned e)
 returned_local e le n p k l h = le n p _ _ (value_agree (λ v. h (Return v)) h)
@@ -90,13 +90,13 @@ pub let_turns : (t u b : Meaning) → IsLocal t → IsLocal u → IsLocal b → 
 let_turns t u b lt lu lb m h n ln again more am p =
     let hn = agree_below ln h in
     value_agree (λ _. lt n p _ _ (tested_agree b lb n p
-    (asks_same (requests.Fork p.scope) [] n (value_agree (λ s. lu n (within p s) _ _ (before_agree n (am (within p s)) hn)) hn)) hn)) hn
+    (asks_same (requests.Fork p) [] n (value_agree (λ s. lu n (within p s) _ _ (before_agree n (am (within p s)) hn)) hn)) hn)) hn
 
 pub let_local : (cells : ℕ) (e t u b : Meaning) → IsLocal e → IsLocal t → IsLocal u → IsLocal b → IsLocal (let_loop cells e t u b)
 let_local cells e t u b le lt lu lb n p k l h =
-    asks_same (requests.Scope p.scope cells) [] n
+    asks_same (requests.Scope p cells) [] n
     (value_agree (λ s. le n (within p s) _ _ (before_agree n
-    (asks_same (requests.Fork (within p s).scope) [] n
+    (asks_same (requests.Fork (within p s)) [] n
     (value_agree (λ z. loop_same (let_turn t u b k) (let_turn t u b l) n (let_turns t u b lt lu lb n h) n (omega arith) (within (within p s) z)) h)) h)) h)
 
 item_ended_agree : (walk : Value) (n : ℕ) {r s : Run} {k l : Next'} → Same n r s → Agree n k l → Agree n (item_ended walk r k) (item_ended walk s l)
@@ -113,7 +113,7 @@ of_turns cells x b lx lb walk m p h n ln again more am z =
     let hn = agree_below ln h in
     value_agree (λ _. asks_same (requests.Next walk) [] n
     (value_agree (λ v. if_same (is_mark v) (hn (Normal values.Undefined))
-    (asks_same (requests.Scope p.scope cells) [] n
+    (asks_same (requests.Scope p cells) [] n
     (value_agree (λ s. lx n (within p s) v _ _ (or_close_agree walk n (lb n (within p s) _ _ (item_ended_agree walk n (am tt) hn)) hn)) hn))) hn)) hn
 
 pub of_local : (cells : ℕ) (x : Binding) (e b : Meaning) → IsLocalAt x → IsLocal e → IsLocal b → IsLocal (of_loop cells x e b)
@@ -128,7 +128,7 @@ unbound_local e le n p v k l h = le n p k l h
 
 pub bound_local : (cells : ℕ) (x : Binding) (e : Meaning) → IsLocalAt x → IsLocal e → IsLocalAt (bound cells x e)
 bound_local cells x e lx le n p v k l h =
-    asks_same (requests.Scope p.scope cells) [] n
+    asks_same (requests.Scope p cells) [] n
     (value_agree (λ s. lx n (within p s) v _ _ (before_agree n (le n (within p s) k l h) h)) h)
 
 abbrev pub IsLocalClause : Option Binding → Type 0

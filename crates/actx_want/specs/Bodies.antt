@@ -218,7 +218,7 @@ end_of (Throw v) more = Throws v
 
 -- what a form wants as the form of a body that begins in this scope
 abbrev pub form_wants : Form → ScopeId → Run
-form_wants form s = eval form (record { scope = s; start = s }) end_of
+form_wants form s = eval form s end_of
 
 abbrev pub body_wants : Option Body → ScopeId → Run
 body_wants None s = λ more. Returns values.Undefined

@@ -29,10 +29,10 @@ pub record ChainWants (o : ObjId) (key argument f v : Value) (p : Place) : Type 
   pub calls : wanted (method_call (values.Object o) key argument) p (Go f ∷ []) ≡ Asks (requests.Call f (values.Object o)) (argument ∷ [])
   pub ends : wanted (method_call (values.Object o) key argument) p (Go f ∷ Go v ∷ []) ≡ Returns values.Undefined
   -- after `undefined` or `null` nothing is asked
-  pub stops : wanted (init 0 (method_call values.Undefined key argument)) p [] ≡ Asks (requests.Init p.scope 0 values.Undefined) []
-  pub stops_at_null : wanted (init 0 (method_call values.Null key argument)) p [] ≡ Asks (requests.Init p.scope 0 values.Undefined) []
+  pub stops : wanted (init 0 (method_call values.Undefined key argument)) p [] ≡ Asks (requests.Init p 0 0 values.Undefined) []
+  pub stops_at_null : wanted (init 0 (method_call values.Null key argument)) p [] ≡ Asks (requests.Init p 0 0 values.Undefined) []
   pub deletes : wanted (member_delete (values.Object o) key) p [] ≡ Asks (requests.Delete (values.Object o) key) []
-  pub deletes_nothing : wanted (init 0 (member_delete values.Null key)) p [] ≡ Asks (requests.Init p.scope 0 (values.Bool true)) []
+  pub deletes_nothing : wanted (init 0 (member_delete values.Null key)) p [] ≡ Asks (requests.Init p 0 0 (values.Bool true)) []
 
 abbrev pub StopsAtNothing : Type 0
 StopsAtNothing = (o : ObjId) (key argument f v : Value) (p : Place) → ChainWants o key argument f v p
@@ -58,9 +58,9 @@ SpreadsUntilTheMark = (f items last walk : Value) (o : ObjId) (v : Value) (p : P
 -- ---- `super(argument)`, from so many scopes inside the one with `this`
 
 pub record SuperWants (hops : ℕ) (argument f this v : Value) (p : Place) : Type 0 where
-  pub loads : wanted (super_call hops (single (literal argument) ∷ [])) p [] ≡ Asks (requests.Load p.scope hops 1) []
+  pub loads : wanted (super_call hops (single (literal argument) ∷ [])) p [] ≡ Asks (requests.Load p hops 1) []
   pub calls : wanted (super_call hops (single (literal argument) ∷ [])) p (Go f ∷ []) ≡ Asks (requests.SuperCall f) (argument ∷ [])
-  pub binds : wanted (super_call hops (single (literal argument) ∷ [])) p (Go f ∷ Go this ∷ []) ≡ Asks (requests.Init p.start 0 this) []
+  pub binds : wanted (super_call hops (single (literal argument) ∷ [])) p (Go f ∷ Go this ∷ []) ≡ Asks (requests.Init p hops 0 this) []
   pub ends : wanted (super_call hops (single (literal argument) ∷ [])) p (Go f ∷ Go this ∷ Go v ∷ []) ≡ Returns values.Undefined
 
 abbrev pub SuperBindsThis : Type 0
@@ -75,11 +75,11 @@ abbrev pub small_class : BodyId → BodyId → BodyId → Value → Value → Va
 small_class constructor method other parent prototype key name = class constructor (Some (literal parent)) prototype (two_members method other key name)
 
 pub record ClassWants (c m o : BodyId) (parent prototype key name f home x y v : Value) (p : Place) : Type 0 where
-  pub makes : wanted (small_class c m o parent prototype key name) p [] ≡ Asks (requests.Class c p.scope (Some parent)) []
+  pub makes : wanted (small_class c m o parent prototype key name) p [] ≡ Asks (requests.Class c p (Some parent)) []
   pub gets : wanted (small_class c m o parent prototype key name) p (Go f ∷ []) ≡ Asks (requests.Get f prototype) []
-  pub method : wanted (small_class c m o parent prototype key name) p (Go f ∷ Go home ∷ []) ≡ Asks (requests.Method m p.scope home) []
+  pub method : wanted (small_class c m o parent prototype key name) p (Go f ∷ Go home ∷ []) ≡ Asks (requests.Method m p home) []
   pub defines : wanted (small_class c m o parent prototype key name) p (Go f ∷ Go home ∷ Go x ∷ []) ≡ Asks (requests.DefineMethod home key x) []
-  pub static_method : wanted (small_class c m o parent prototype key name) p (Go f ∷ Go home ∷ Go x ∷ Go v ∷ []) ≡ Asks (requests.Method o p.scope f) []
+  pub static_method : wanted (small_class c m o parent prototype key name) p (Go f ∷ Go home ∷ Go x ∷ Go v ∷ []) ≡ Asks (requests.Method o p f) []
   pub defines_static : wanted (small_class c m o parent prototype key name) p (Go f ∷ Go home ∷ Go x ∷ Go v ∷ Go y ∷ []) ≡ Asks (requests.DefineMethod f name y) []
   -- a class without members asks for no prototype
   pub empty : wanted (class c None prototype []) p (Go f ∷ []) ≡ Returns values.Undefined

@@ -32,12 +32,12 @@ new callee arguments p k = callee p (making arguments p k)
 -- ---- `super( .. )` (§13.3.7.1)
 
 -- the object came, and is `this` from now on (BindThisValue, §9.1.1.3.1)
-abbrev pub this_bound : Place → Next' → Next'
-this_bound p k = on_value (λ v. ask (requests.Init p.start 0 v) (keeping v k)) k
+abbrev pub this_bound : ℕ → Place → Next' → Next'
+this_bound hops p k = on_value (λ v. ask (requests.Init p hops 0 v) (keeping v k)) k
 
 -- the constructor came
-abbrev pub super_calling : List Listed → Place → Next' → Next'
-super_calling arguments p k = on_value (λ f. listed arguments p [] (λ list. asks (requests.SuperCall f) list (this_bound p k)) k) k
+abbrev pub super_calling : ℕ → List Listed → Place → Next' → Next'
+super_calling hops arguments p k = on_value (λ f. listed arguments p [] (λ list. asks (requests.SuperCall f) list (this_bound hops p k)) k) k
 
 abbrev pub super_call : ℕ → List Listed → Meaning
-super_call hops arguments p k = ask (requests.Load p.scope hops 1) (super_calling arguments p k)
+super_call hops arguments p k = ask (requests.Load p hops 1) (super_calling hops arguments p k)

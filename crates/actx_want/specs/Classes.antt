@@ -24,7 +24,7 @@ home_of m f prototype = if m.is_static then f else prototype
 unfoldable pub members_of : List ClassMember → Value → Value → Meaning
 members_of [] f prototype p k = k (Normal f)
 members_of (m ∷ ms) f prototype p k =
-    ask (requests.Method m.body p.scope (home_of m f prototype)) (method_made (home_of m f prototype) m.key (before (members_of ms f prototype p k) k))
+    ask (requests.Method m.body p (home_of m f prototype)) (method_made (home_of m f prototype) m.key (before (members_of ms f prototype p k) k))
 
 -- the prototype object came
 abbrev pub prototype_got : List ClassMember → Value → Place → Next' → Next'
@@ -36,8 +36,8 @@ class_made key ms p k = on_value (λ f. if stands_on_prototype ms then ask (requ
 
 -- the parent came
 abbrev pub extending : BodyId → Value → List ClassMember → Place → Next' → Next'
-extending constructor key ms p k = on_value (λ v. ask (requests.Class constructor p.scope (Some v)) (class_made key ms p k)) k
+extending constructor key ms p k = on_value (λ v. ask (requests.Class constructor p (Some v)) (class_made key ms p k)) k
 
 abbrev pub class : BodyId → Option Meaning → Value → List ClassMember → Meaning
-class constructor None key ms p k = ask (requests.Class constructor p.scope None) (class_made key ms p k)
+class constructor None key ms p k = ask (requests.Class constructor p None) (class_made key ms p k)
 class constructor (Some parent) key ms p k = parent p (extending constructor key ms p k)

@@ -60,8 +60,8 @@ abbrev pub to_first_test : ScopeId → ScopeId → List Answer → List Answer
 to_first_test a b more = Go (values.Scope a) ∷ Go values.Undefined ∷ Go (values.Scope b) ∷ Go values.Undefined ∷ more
 
 pub record CountingWants (start old number new v : Value) (p : Place) (a b c : ScopeId) : Type 0 where
-  pub scope : wanted (counting start) p [] ≡ Asks (requests.Scope p.scope 1) []
-  pub declared : wanted (counting start) p (Go (values.Scope a) ∷ []) ≡ Asks (requests.Init a 0 start) []
+  pub scope : wanted (counting start) p [] ≡ Asks (requests.Scope p 1) []
+  pub declared : wanted (counting start) p (Go (values.Scope a) ∷ []) ≡ Asks (requests.Init a 0 0 start) []
   pub copy : wanted (counting start) p (Go (values.Scope a) ∷ Go values.Undefined ∷ []) ≡ Asks (requests.Fork a) []
   pub turn : wanted (counting start) p (Go (values.Scope a) ∷ Go values.Undefined ∷ Go (values.Scope b) ∷ []) ≡ Asks requests.Tick []
   pub test : wanted (counting start) p (to_first_test a b []) ≡ Asks (requests.Load b 0 0) []
@@ -94,8 +94,8 @@ pub record WalkWants (value walk v w : Value) (o : ℕ) (p : Place) (s : ScopeId
   -- a mark ends it, and a throw of Next closes nothing
   pub ends : wanted (walk_over value broken) p (Go walk ∷ Go values.Undefined ∷ Go values.Mark ∷ []) ≡ Returns values.Undefined
   pub fails : wanted (walk_over value broken) p (Go walk ∷ Go values.Undefined ∷ Raise v ∷ []) ≡ Throws v
-  pub scope : wanted (walk_over value broken) p (Go walk ∷ Go values.Undefined ∷ Go (values.Num (pos o)) ∷ []) ≡ Asks (requests.Scope p.scope 1) []
-  pub target : wanted (walk_over value broken) p (Go walk ∷ Go values.Undefined ∷ Go (values.Num (pos o)) ∷ Go (values.Scope s) ∷ []) ≡ Asks (requests.Init s 0 (values.Num (pos o))) []
+  pub scope : wanted (walk_over value broken) p (Go walk ∷ Go values.Undefined ∷ Go (values.Num (pos o)) ∷ []) ≡ Asks (requests.Scope p 1) []
+  pub target : wanted (walk_over value broken) p (Go walk ∷ Go values.Undefined ∷ Go (values.Num (pos o)) ∷ Go (values.Scope s) ∷ []) ≡ Asks (requests.Init s 0 0 (values.Num (pos o))) []
   -- `break`
   pub closes : wanted (walk_over value broken) p (to_body walk (values.Num (pos o)) s []) ≡ Asks (requests.Close walk) []
   pub breaks : wanted (walk_over value broken) p (to_body walk (values.Num (pos o)) s (Go w ∷ [])) ≡ Returns values.Undefined

@@ -7,7 +7,7 @@ use Rattle.actx_want.specs.Run.{Run, Next', Place, Meaning, ask, on_value}
 
 -- a function or an arrow (§15.2.5, §15.3.4, §15.5.3, §15.8.3)
 abbrev pub function : BodyId → Meaning
-function body p k = ask (requests.Function body p.scope) k
+function body p k = ask (requests.Function body p) k
 
 -- what is bound to a value
 abbrev pub Binding : Type 0

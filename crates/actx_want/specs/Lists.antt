@@ -79,7 +79,7 @@ pair key e p object k = key p (λ name. e p (defining object name k)) k
 
 -- a method, whose home is the object (§15.4.4)
 abbrev pub method : Keyed → BodyId → Filling
-method key body p object k = key p (λ name. ask (requests.Method body p.scope object) (defining object name k)) k
+method key body p object k = key p (λ name. ask (requests.Method body p object) (defining object name k)) k
 
 -- `...`: a value came, whose properties are copied
 abbrev pub copying : Value → Next' → Next'

@@ -63,7 +63,7 @@ abbrev pub updating : Meaning → (Place → Run) → Place → Next' → Next'
 updating update again p k = on_value (λ s. update (within p s) (before (again (within p s)) k)) k
 
 abbrev pub let_turn : Meaning → Meaning → Meaning → Next' → Turn Place
-let_turn test update body k again p = on_value (λ _. test p (tested body (ask (requests.Fork p.scope) (updating update again p k)) p k)) k
+let_turn test update body k again p = on_value (λ _. test p (tested body (ask (requests.Fork p) (updating update again p k)) p k)) k
 
 -- the first copy came
 abbrev pub let_started : Meaning → Meaning → Meaning → Place → Next' → Next'
@@ -71,14 +71,14 @@ let_started test update body p k = on_value (λ s. loop (let_turn test update bo
 
 -- the declarations ended
 abbrev pub let_declared : Meaning → Meaning → Meaning → Place → Next' → Next'
-let_declared test update body p k = before (ask (requests.Fork p.scope) (let_started test update body p k)) k
+let_declared test update body p k = before (ask (requests.Fork p) (let_started test update body p k)) k
 
 -- the scope of the head came
 abbrev pub let_entered : Meaning → Meaning → Meaning → Meaning → Place → Next' → Next'
 let_entered first test update body p k = on_value (λ s. first (within p s) (let_declared test update body (within p s) k)) k
 
 abbrev pub let_loop : ℕ → Meaning → Meaning → Meaning → Meaning → Meaning
-let_loop cells first test update body p k = ask (requests.Scope p.scope cells) (let_entered first test update body p k)
+let_loop cells first test update body p k = ask (requests.Scope p cells) (let_entered first test update body p k)
 
 -- ---- `for-of` (§14.7.5.5, ForIn/OfBodyEvaluation §14.7.5.7)
 
@@ -100,7 +100,7 @@ item_entered target body walk v next p k =
 -- an item came, or the mark
 abbrev pub item_came : ℕ → Binding → Meaning → Value → Run → Place → Next' → Next'
 item_came cells target body walk next p k =
-    on_value (λ v. if is_mark v then k (Normal values.Undefined) else ask (requests.Scope p.scope cells) (item_entered target body walk v next p k)) k
+    on_value (λ v. if is_mark v then k (Normal values.Undefined) else ask (requests.Scope p cells) (item_entered target body walk v next p k)) k
 
 abbrev pub of_turn : ℕ → Binding → Meaning → Value → Place → Next' → Turn Once
 of_turn cells target body walk p k again s = on_value (λ _. ask (requests.Next walk) (item_came cells target body walk (again tt) p k)) k

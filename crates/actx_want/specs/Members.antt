@@ -96,7 +96,7 @@ super_this key ss home p k = on_value (λ this. ask (requests.SuperGet home key 
 
 -- the home object came
 abbrev pub super_home : ℕ → Value → List Suffixed → Place → Next' → Next'
-super_home hops key ss p k = on_value (λ home. ask (requests.Load p.scope hops 0) (super_this key ss home p k)) k
+super_home hops key ss p k = on_value (λ home. ask (requests.Load p hops 0) (super_this key ss home p k)) k
 
 abbrev pub super_member : ℕ → Value → List Suffixed → Meaning
-super_member hops key ss p k = ask (requests.Load p.scope hops 2) (super_home hops key ss p k)
+super_member hops key ss p k = ask (requests.Load p hops 2) (super_home hops key ss p k)

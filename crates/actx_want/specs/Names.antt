@@ -21,7 +21,7 @@ pub record Access : Type 0 where
 
 -- a name in its scope, so many scopes further out
 abbrev pub name_at : Place → ℕ → ℕ → Access
-name_at p hops slot = record { read = λ k. ask (requests.Load p.scope hops slot) k; write = λ v k. ask (requests.Store p.scope hops slot v) k }
+name_at p hops slot = record { read = λ k. ask (requests.Load p hops slot) k; write = λ v k. ask (requests.Store p hops slot v) k }
 
 -- a change of what is read and written so
 abbrev pub Changing : Type 0
@@ -94,7 +94,7 @@ changed_after op a p k = a.read (numbering (stepped_after a op k) k)
 
 -- a name, or `this` (§13.1.3, §13.2.1.1)
 abbrev pub name : ℕ → ℕ → Meaning
-name hops slot p k = ask (requests.Load p.scope hops slot) k
+name hops slot p k = ask (requests.Load p hops slot) k
 
 abbrev pub change_name : ℕ → ℕ → Changing → Meaning
 change_name hops slot change p k = change (name_at p hops slot) p k

@@ -11,7 +11,7 @@ use Rattle.actx_want.specs.Functions.{Binding, binding}
 
 -- a name: a cell of the present scope (InitializeReferencedBinding, §6.2.5.8)
 abbrev pub slot : ℕ → Binding
-slot i p v k = ask (requests.Init p.scope i v) k
+slot i p v k = ask (requests.Init p 0 i v) k
 
 -- ---- defaults (§8.6.3, KeyedBindingInitialization §8.6.4)
 

@@ -24,10 +24,9 @@ Run = List Answer → Wants
 abbrev pub Next' : Type 0
 Next' = Completion → Run
 
--- the present scope, and the scope in which the body began
-pub record Place : Type 0 where
-  pub scope : ScopeId
-  pub start : ScopeId
+-- the present scope
+abbrev pub Place : Type 0
+Place = ScopeId
 
 -- what a form does at a place, by what is done with its completion
 abbrev pub Meaning : Type 0
@@ -114,7 +113,7 @@ scope_or s values.Mark = s
 
 -- the place in that scope
 abbrev pub within : Place → Value → Place
-within p v = record { scope = scope_or p.scope v; start = p.start }
+within p v = scope_or p v
 
 -- ---- loops
 

@@ -25,7 +25,7 @@ if_else test chosen other p k = test p (choosing chosen other p k)
 
 -- the first value of a cell came; it is given (§14.3.1.2)
 abbrev pub initialising : ℕ → Place → Next' → Next'
-initialising slot p k = on_value (λ v. ask (requests.Init p.scope slot v) (keeping v k)) k
+initialising slot p k = on_value (λ v. ask (requests.Init p 0 slot v) (keeping v k)) k
 
 abbrev pub init : ℕ → Meaning → Meaning
 init slot e p k = e p (initialising slot p k)
@@ -34,19 +34,19 @@ init slot e p k = e p (initialising slot p k)
 
 -- a function that the scope declares came
 abbrev pub declaring : ℕ → Place → Run → Next' → Next'
-declaring slot p next k = on_value (λ v. ask (requests.Init p.scope slot v) (before next k)) k
+declaring slot p next k = on_value (λ v. ask (requests.Init p 0 slot v) (before next k)) k
 
 -- the functions that a scope declares, and then what comes next
 unfoldable pub declared_of : List Declared → Place → Run → Next' → Run
 declared_of [] p next k = next
-declared_of (f ∷ fs) p next k = ask (requests.Function f.body p.scope) (declaring f.slot p (declared_of fs p next k) k)
+declared_of (f ∷ fs) p next k = ask (requests.Function f.body p) (declaring f.slot p (declared_of fs p next k) k)
 
 -- the scope came
 abbrev pub entered : List Declared → Meaning → Place → Next' → Next'
 entered fs body p k = on_value (λ s. declared_of fs (within p s) (body (within p s) k) k) k
 
 abbrev pub block : ℕ → List Declared → Meaning → Meaning
-block cells fs body p k = ask (requests.Scope p.scope cells) (entered fs body p k)
+block cells fs body p k = ask (requests.Scope p cells) (entered fs body p k)
 
 -- ---- `return`, `throw`, `break`, `continue` (§14.8 to §14.10, §14.14)
 

@@ -17,7 +17,7 @@ abbrev pub catch_entered : Binding → Meaning → Value → Place → Next' →
 catch_entered target block v p k = on_value (λ s. target (within p s) v (before (block (within p s) k) k)) k
 
 abbrev pub bound : ℕ → Binding → Meaning → Binding
-bound cells target block p v k = ask (requests.Scope p.scope cells) (catch_entered target block v p k)
+bound cells target block p v k = ask (requests.Scope p cells) (catch_entered target block v p k)
 
 -- a throw is caught, and every other completion passes
 abbrev pub catching : Binding → Place → Next' → Next'

@@ -1,0 +1,29 @@
+-- What the parts of a form are kept as.
+use Rattle.std.specs.Prelude.{◌≡◌}
+use Rattle.std.specs.declared.rc.Rc.{Rc}
+use Rattle.std.specs.declared.alloc.Global.{Global}
+use Rattle.std.specs.declared.vec.Vec.{Vec}
+use Rattle.actx_code.specs.declared.form.Form.{Form}
+use Rattle.actx_code.specs.declared.member.Suffix.{Suffix}
+use Rattle.actx_value.specs.declared.ids.ScopeId.{ScopeId}
+use Rattle.actx_frame.specs.declared.items.member.Chain.{Chain}
+use Rattle.actx_frame.specs.declared.items.member.ChainEnd.{ChainEnd}
+use Rattle.actx_frame.specs.declared.items.walk.WhileLoop.{WhileLoop}
+use Rattle.actx_frame.specs.declared.items.walk.ForLoop.{ForLoop}
+
+pub record IsChain (c : Chain) (ss : Rc (Vec Suffix Global) Global) (p : ScopeId) (e : ChainEnd) : Type 0 where
+  pub suffixes : c.suffixes.value ≡ ss.value
+  pub at : c.at ≡ 0
+  pub place : c.place ≡ p
+  pub end : c.end ≡ e
+
+pub record IsWhile (l : WhileLoop) (test body : Rc Form Global) (p : ScopeId) : Type 0 where
+  pub test : l.test.value ≡ test.value
+  pub body : l.body.value ≡ body.value
+  pub place : l.place ≡ p
+
+pub record IsFor (l : ForLoop) (test update body : Rc Form Global) (p : ScopeId) : Type 0 where
+  pub test : l.test.value ≡ test.value
+  pub update : l.update.value ≡ update.value
+  pub body : l.body.value ≡ body.value
+  pub place : l.place ≡ p

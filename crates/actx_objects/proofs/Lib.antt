@@ -9,3 +9,4 @@ mod SliceLemmas
 mod SlotLemmas
 mod FoundLemmas
 mod SeenLemmas
+mod OrderLemmas

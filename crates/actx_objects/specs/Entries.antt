@@ -1,6 +1,6 @@
 -- The entries of a Map or a Set: each with the place where it was put first. Places only grow, and
 -- none is given twice.
-use Rattle.std.specs.Prelude.{ℕ, suc, Bool, nat_le, List, Option, Some, None, is_some, if◌then◌else◌}
+use Rattle.std.specs.Prelude.{ℕ, suc, ◌≤◌, ◌<◌, Bool, nat_le, List, [], ◌∷◌, Option, Some, None, is_some, All, ⊤, if◌then◌else◌}
 use Rattle.std.specs.List.{find}
 use Rattle.std.specs.Option.{option_map, option_map_or}
 use Rattle.actx_value.specs.declared.value.Value.{Value}
@@ -39,3 +39,14 @@ triple_of e = (e.1.place, e.0, e.1.value)
 
 abbrev pub first_from : ℕ → EntryList → Option (ℕ × Value × Value)
 first_from place es = option_map triple_of (find (λ e. nat_le place e.1.place) es.standing)
+
+-- the places of these entries are at least this one, and each is greater than that of the entry before
+abbrev pub AscendFrom : ℕ → List (Value × Placed) → Type 0
+AscendFrom place [] = ⊤
+AscendFrom place (e ∷ es) = (place ≤ e.1.place) × AscendFrom (suc e.1.place) es
+
+-- the entries stand in the order of their places, each below the next place, which is in 31 bits
+pub record StandInOrder (es : EntryList) : Type 0 where
+  pub ascending : AscendFrom 0 es.standing
+  pub below : All (λ e. e.1.place < es.places) es.standing
+  pub few : es.places < 2147483648

@@ -111,6 +111,10 @@ placed_of s o key = option_map (λ e. e.value) (option_and_then (λ x. entry_in 
 abbrev pub entry_of : List (List ℕ) → ObjectStore → ObjId → Value → Option Value
 entry_of texts s o key = placed_of s o (normal_value texts key)
 
+-- the entries of an object
+abbrev pub entries_of : ObjectStore → ObjId → EntryList
+entries_of s o = option_map_or (λ x. x.entries) (object_at s o) (record { standing = []; places = 0 })
+
 -- the first entry whose place is at least this one
 abbrev pub entry_from : ObjectStore → ObjId → ℕ → Option (ℕ × Value × Value)
 entry_from s o place = option_and_then (λ x. first_from place x.entries) (object_at s o)

@@ -2,7 +2,7 @@
 
 ghost use Rattle.std.specs.Prelude.{◌≡◌, ◌<◌, [], Some, None, length, slice_get, OnOk, OnErr};
 ghost use Rattle.std.specs.Option.{option_map};
-ghost use Rattle.actx_objects.specs.Entries.{entry_in, with_entry, without_entry, first_from};
+ghost use Rattle.actx_objects.specs.Entries.{entry_in, with_entry, without_entry, first_from, StandInOrder};
 ghost use Rattle.actx_objects.specs.declared.entries.Placed.{Placed};
 
 use crate::slot::{Places, Slot};
@@ -67,6 +67,14 @@ impl Entries {
         ensures { result ≡ self.now.places }
     {
         self.slots.len() as u64
+    }
+
+    /// Entries stand in the order of their places. The call does nothing: its contract is the law.
+    pub(crate) fn stand_in_order(&self)
+        requires { self.now.places < 2147483648 }
+        ensures { StandInOrder self.now }
+    {
+        let _slots = self.slots.len();
     }
 
     /// What stands under a normal key.

@@ -116,7 +116,7 @@ impl Objects {
     }
 
     /// Whether an object is frozen.
-    pub fn is_frozen(&self, o: ObjId) -> bool
+    fn is_frozen(&self, o: ObjId) -> bool
         ensures { result ≡ is_frozen self.now o }
     {
         match self.items.get(o.0 as usize) {

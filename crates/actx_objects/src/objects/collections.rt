@@ -2,7 +2,8 @@
 
 ghost use Rattle.std.specs.Prelude.{◌≡◌, false, length, OnOk, OnErr, IsTrue, is_some};
 ghost use Rattle.actx_objects.specs.Kinds.{is_collection};
-ghost use Rattle.actx_objects.specs.Objects.{kind_of, is_there, size_of, placed_of, entry_of, entry_from, entry_put, entry_dropped, has_no_place};
+ghost use Rattle.actx_objects.specs.Objects.{kind_of, is_there, size_of, placed_of, entry_of, entries_of, entry_from, entry_put, entry_dropped, has_no_place};
+ghost use Rattle.actx_objects.specs.Entries.{StandInOrder};
 ghost use Rattle.actx_objects.specs.Writes.{IsRefusedBy};
 ghost use Rattle.actx_objects.specs.Collections.{put_refusal, has_entry, entry_written, entry_left};
 
@@ -137,6 +138,17 @@ impl Objects {
         match self.items.get(o.0 as usize) {
             Some(object) => object.entries.first_from(place),
             None => None,
+        }
+    }
+    /// The entries of an object stand in the order of their places, so that a walk by `entry_at` meets each
+    /// one. The call does nothing: its contract is the law.
+    pub fn entries_stand_in_order(&self, o: ObjId)
+        ensures { StandInOrder (entries_of self.now o) }
+    {
+        let _total = self.total;
+        match self.items.get(o.0 as usize) {
+            Some(object) => object.entries.stand_in_order(),
+            None => {}
         }
     }
 }

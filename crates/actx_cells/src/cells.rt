@@ -2,9 +2,9 @@
 
 ghost use Rattle.std.specs.Prelude.{◌≡◌, ◌↔◌, ◌<◌, ◌≤◌, IsTrue, ◌+◌, ◌++◌, ◌∷◌, [], suc, length, None, IfOk, OnOk, OnErr, IsErr, IsErrOf};
 ghost use Rattle.std.specs.Result.{result_ok};
-ghost use Rattle.actx_cells.specs.Scopes.{count_of, value_at, with_cell, with_value_at, new_scope, fork_of};
+ghost use Rattle.actx_cells.specs.Scopes.{count_of, value_at, with_cell, with_value_at, new_scope, fork_of, outer_of, parents_of};
 
-use crate::span::{Span, place_of, span_of};
+use crate::span::{Span, outer, place_of, span_of};
 use actx_value::{ScopeId, StoreError, Value};
 use std::alloc::{AllocError, Global};
 use std::marker::Model;
@@ -137,6 +137,14 @@ impl Cells {
             count: span.count,
         });
         Ok(ScopeId(number as u32))
+    }
+
+    /// The scope that is `hops` further out, and `None` exactly where a scope on the way isn't there or has no
+    /// parent. It takes one step for each hop.
+    pub fn outer(&self, s: ScopeId, hops: u32) -> Option<ScopeId>
+        ensures { result ≡ outer_of (parents_of self.now.scopes) hops s }
+    {
+        outer(self.spans.as_slice(), s, hops)
     }
 
     /// Gives a cell of this scope a value, whether it has one or not (InitializeBinding,

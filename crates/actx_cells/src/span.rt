@@ -25,7 +25,7 @@ fn parent_of(spans: &[Span], s: ScopeId) -> Option<ScopeId>
 }
 
 /// The scope that is `hops` further out. It takes one step for each hop.
-fn outer(spans: &[Span], s: ScopeId, hops: u32) -> Option<ScopeId>
+pub(crate) fn outer(spans: &[Span], s: ScopeId, hops: u32) -> Option<ScopeId>
     ensures { result ≡ outer_of (map (λ span. span.parent) spans.now) hops s }
 {
     let mut scope = s;

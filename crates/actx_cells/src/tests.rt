@@ -25,6 +25,8 @@ fn hops_and_forks(rt: HostRuntime) -> Result<(), Fail> {
     let mut cells = Cells::new(rt.alloc(), 100);
     let outer = cells.scope(None, 2)?;
     let inner = cells.scope(Some(outer), 1)?;
+    assert_eq!(rt; cells.outer(inner, 1), Some(outer));
+    assert_eq!(rt; cells.outer(inner, 2), None);
     cells.init(outer, 1, Value::Bool(true));
     cells.init(inner, 0, Value::Num(1));
     assert_eq!(rt; cells.get(inner, 1, 1), Ok(Value::Bool(true)));

@@ -30,7 +30,7 @@ use Rattle.actx_tree.specs.declared.operator.AssignOp.{AssignOp}
 use Rattle.actx_tree.specs.declared.function.Flow.{Flow}
 use Rattle.actx_tree.specs.declared.function.Unread.{Unread}
 use Rattle.actx_tree.specs.Parts.{piece_of, operand_of, function_of, method_of, class_of, member_of, elem_of, params_of}
-use Rattle.actx_scope.specs.Sights.{mapped}
+use Rattle.actx_scope.specs.Nodes.{mapped}
 use Rattle.actx_tree.specs.Folds.{Steps, fold_expr, fold_piece, fold_argument, fold_entry, fold_key, fold_suffix, fold_operand, fold_function, fold_method, fold_class, fold_member, fold_target, fold_prop, fold_elem, fold_params}
 
 pub fold_expr-Name : (A : Type 0) (s : Steps A) (name : Units) → fold_expr A s (e.Name name) ≡ s.expr (Expr-F.Expr::Name name)

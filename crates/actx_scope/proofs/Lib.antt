@@ -5,5 +5,7 @@ pub mod Orders
 pub mod Worked
 pub mod Units
 pub mod Lists
-pub mod Sees
-pub mod SeesFunctions
+pub mod Names
+pub mod Adds
+pub mod Insides
+pub mod Patterns

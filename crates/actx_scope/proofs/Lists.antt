@@ -1,5 +1,6 @@
 -- Steps of loops over lists of parts.
-use Rattle.std.proofs.Common.{◌≡◌, ℕ, ◌+◌, ◌<◌, ◌≤◌, Bool, true, false, ◌||◌, List, [], ◌∷◌, length, get_or, map, drop, sym, ap, ◌∙◌}
+use Rattle.std.proofs.Common.{◌≡◌, ℕ, ◌+◌, ◌<◌, ◌≤◌, Bool, true, false, ◌||◌, List, [], ◌∷◌, ◌++◌, length, get_or, map, drop, refl, sym, ap, ◌∙◌, append_assoc}
+use Rattle.std.proofs.lemmas.List.{append-nil}
 use Rattle.std.proofs.Math.ListN.{drop_of_length-le}
 use Rattle.std.proofs.lemmas.List.{drop_more}
 use Rattle.actx_tree.specs.declared.expr.Entry.{Entry}
@@ -50,3 +51,21 @@ bad_key-more xs i x b whole h e is not_it keeps = let t : is_word proto_word (en
 pub bad_key-done : (xs : List Entry) (i : ℕ) (whole : Bool) → length xs ≤ i → bad_key (drop i xs) ≡ whole → false ≡ whole
 unfolding has_bad_key
 bad_key-done xs i whole h keeps = sym (ap (λ z. bad_key z) (done xs i h)) ∙ keeps
+
+-- ---- lists that grow
+
+-- an item more
+pub more : {B : Type 0} (before after was item rest all : List B) → after ≡ before ++ item → all ≡ item ++ rest → before ++ all ≡ was → after ++ rest ≡ was
+more before after was item rest all step split whole = ap (λ z. z ++ rest) step ∙ (append_assoc before item rest ∙ (ap (λ z. before ++ z) (sym split) ∙ whole))
+
+-- all of them
+pub finished : {B : Type 0} (found rest whole : List B) → rest ≡ [] → found ++ rest ≡ whole → found ≡ whole
+finished found rest whole none whole_is = sym (append-nil found) ∙ (ap (λ z. found ++ z) (sym none) ∙ whole_is)
+
+pub or-assoc : (a b c : Bool) → ((a || b) || c) ≡ (a || (b || c))
+or-assoc true b c = refl
+or-assoc false b c = refl
+
+pub or-false : (a : Bool) → (a || false) ≡ a
+or-false true = refl
+or-false false = refl

@@ -30,7 +30,7 @@ use Rattle.actx_tree.specs.declared.operator.AssignOp.{AssignOp}
 use Rattle.actx_tree.specs.declared.function.Flow.{Flow}
 use Rattle.actx_tree.specs.declared.function.Unread.{Unread}
 use Rattle.actx_tree.specs.Parts.{piece_of, operand_of, function_of, method_of, class_of, member_of, elem_of, params_of}
-use Rattle.actx_scope.specs.Sights.{mapped}
+use Rattle.actx_scope.specs.Nodes.{mapped}
 use Rattle.actx_scope.specs.Nodes.{Part, steps, expr_part, piece_part, argument_part, entry_part, key_part, suffix_part, operand_part, function_part, method_part, class_part, member_part_of, target_part, prop_part, elem_part, params_part, expr_step, piece_step, argument_step, entry_step, key_step, suffix_step, operand_step, function_step, method_step, class_step, member_step, target_step, prop_step, elem_step, params_step}
 use Rattle.actx_scope.proofs.FoldEquations.{fold_expr-Name, fold_expr-Number, fold_expr-Text, fold_expr-Bool, fold_expr-Null, fold_expr-This, fold_expr-Template, fold_expr-Brackets, fold_expr-Array, fold_expr-Object, fold_expr-SuperCall, fold_expr-SuperMember, fold_expr-Function, fold_expr-Class, fold_expr-New, fold_expr-Left, fold_expr-StepBefore, fold_expr-StepAfter, fold_expr-Unary, fold_expr-Chain, fold_expr-Conditional, fold_expr-Assign, fold_expr-Yield, fold_expr-Arrow, fold_expr-ArrowBlock, fold_expr-Comma, fold_piece-Piece, fold_argument-One, fold_argument-Spread, fold_entry-Spread, fold_entry-Shorthand, fold_entry-Pair, fold_entry-Method, fold_key-Word, fold_key-Text, fold_key-Number, fold_key-Computed, fold_suffix-Member, fold_suffix-Index, fold_suffix-Call, fold_operand-Operand, fold_function-Function, fold_method-Method, fold_class-Class, fold_member-Member, fold_target-Name, fold_target-Object, fold_target-Array, fold_prop-Shorthand, fold_prop-Pair, fold_elem-Elem, fold_params-Params}
 

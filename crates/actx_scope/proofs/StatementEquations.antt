@@ -10,7 +10,7 @@ use Rattle.actx_tree.specs.declared.stmt.Stmt.TheVariants as s
 use Rattle.actx_tree.specs.declared.stmt.Catch.{Catch, out-Catch, roll-out-Catch}
 use Rattle.actx_tree.specs.declared.stmt.ForInit.{ForInit}
 use Rattle.actx_tree.specs.Parts.{catch_of}
-use Rattle.actx_scope.specs.Sights.{mapped}
+use Rattle.actx_scope.specs.Nodes.{mapped}
 use Rattle.actx_scope.specs.Statements.{statement, handler_of, stmt_step, catch_step}
 
 pub statement-Let : (is_const : Bool) (elems : List Elem) → statement (s.Let is_const elems) ≡ stmt_step (Stmt-F.Let is_const elems)

@@ -8,7 +8,7 @@ use Rattle.actx_scope.specs.Scopes.{found_from, last_slot}
 use Rattle.actx_scope.specs.Conditions.{has_bad_key}
 use Rattle.actx_scope.specs.Early.{early_errors, name_uses, errors_from, uses_from, tree_nodes, spread, nodes_in}
 use Rattle.actx_scope.specs.Examples as example
-use Rattle.actx_scope.proofs.PartEquations.{expr_part-Number, expr_part-Unary, elem_part-Elem, target_part-Name, expr_part-Name, expr_part-Assign, function_part-Function, params_part-Params, expr_part-Brackets, expr_part-Object, entry_part-Pair, key_part-Word, class_part-Class, member_part_of-Member, method_part-Method}
+use Rattle.actx_scope.proofs.PartEquations.{expr_part-Number, expr_part-Unary, elem_part-Elem, target_part-Name, expr_part-Name, expr_part-Assign, function_part-Function, params_part-Params, expr_part-Brackets, expr_part-Object, entry_part-Pair, entry_part-Shorthand, key_part-Word, class_part-Class, member_part_of-Member, method_part-Method}
 use Rattle.actx_scope.proofs.StatementEquations.{statement-Break, statement-While, statement-Block, statement-Return, statement-Expr, statement-Let, statement-Function, statement-Class}
 
 pub lone_break : early_errors example.lone_break ≡ record { kind = kind.BadBreak; at = 0 } ∷ []
@@ -39,6 +39,10 @@ pub unknown : early_errors example.unknown_name ≡ record { kind = kind.NotDecl
 unfolding errors_from tree_nodes spread nodes_in same_units among found_from last_slot has_bad_key
 unknown = rw (statement-Expr, expr_part-Name) refl
 
+pub shorthand : early_errors example.unknown_shorthand ≡ record { kind = kind.NotDeclared; at = 3 } ∷ []
+unfolding errors_from tree_nodes spread nodes_in same_units among found_from last_slot has_bad_key
+shorthand = rw (statement-Expr, expr_part-Brackets, expr_part-Object, entry_part-Shorthand) refl
+
 pub global : early_errors example.global_name ≡ []
 unfolding errors_from tree_nodes spread nodes_in same_units among found_from last_slot has_bad_key
 global = rw (statement-Expr, expr_part-Name) refl
@@ -65,7 +69,7 @@ deleted = rw (statement-Expr, expr_part-Unary, expr_part-Name) refl
 
 pub proto : early_errors example.proto_key ≡ record { kind = kind.BadKey; at = 2 } ∷ []
 unfolding errors_from tree_nodes spread nodes_in same_units among found_from last_slot has_bad_key
-proto = rw (statement-Expr, expr_part-Brackets, expr_part-Object, entry_part-Pair, key_part-Word, expr_part-Number) refl
+proto = rw (statement-Expr, expr_part-Brackets, expr_part-Object, entry_part-Pair, entry_part-Shorthand, key_part-Word, expr_part-Number) refl
 
 pub constructors : early_errors example.two_constructors ≡ record { kind = kind.TwoConstructors; at = 2 } ∷ []
 unfolding errors_from tree_nodes spread nodes_in same_units among found_from last_slot has_bad_key

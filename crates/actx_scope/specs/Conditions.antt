@@ -10,22 +10,28 @@ use Rattle.actx_scope.specs.declared.slot.Found.{Found}
 use Rattle.actx_scope.specs.declared.place.Owner.{Owner}
 use Rattle.actx_scope.specs.declared.place.Owner.TheVariants as owner
 use Rattle.actx_scope.specs.declared.place.Place.{Place}
-use Rattle.actx_scope.specs.Contexts.{Role, evaluated, assigned, declared}
+use Rattle.actx_scope.specs.declared.place.Role.{Role}
+use Rattle.actx_scope.specs.declared.place.Role.TheVariants as roles
 
 -- an error, if its condition holds
 abbrev pub when : Bool → EarlyKind → List EarlyKind
 when true kind = kind ∷ []
 when false kind = []
 
+-- the first of the errors of a node
+abbrev pub first : List EarlyKind → Option EarlyKind
+first [] = None
+first (k ∷ ks) = Some k
+
 -- ---- names
 
 -- Redeclared: a function or a class is declared under a name that stands before it in its scope (§14.2.1, §16.1.1). The
 -- other ways to be redeclared are `repeats` of a pattern and of parameters.
 abbrev pub is_redeclared : Role → Option Units → List Units → Bool
-is_redeclared evaluated name earlier = false
-is_redeclared assigned name earlier = false
-is_redeclared declared None earlier = false
-is_redeclared declared (Some name) earlier = among name earlier
+is_redeclared roles.Evaluated name earlier = false
+is_redeclared roles.Assigned name earlier = false
+is_redeclared roles.Declared None earlier = false
+is_redeclared roles.Declared (Some name) earlier = among name earlier
 
 -- NotDeclared: a name that no scope around it has (§9.1.2.1)
 abbrev pub is_not_declared : Option Found → Bool
@@ -33,10 +39,10 @@ is_not_declared x = is_none x
 
 -- ConstAssigned: a name is assigned that is fixed (§9.1.1.1.5)
 abbrev pub is_const_assigned : Role → Option Found → Bool
-is_const_assigned evaluated x = false
-is_const_assigned declared x = false
-is_const_assigned assigned None = false
-is_const_assigned assigned (Some x) = x.is_fixed
+is_const_assigned roles.Evaluated x = false
+is_const_assigned roles.Declared x = false
+is_const_assigned roles.Assigned None = false
+is_const_assigned roles.Assigned (Some x) = x.is_fixed
 
 -- ---- statements and expressions of one place
 

@@ -6,6 +6,8 @@ use Rattle.actx_tree.specs.declared.function.Flow.TheVariants as flow
 use Rattle.actx_scope.specs.declared.place.Owner.{Owner}
 use Rattle.actx_scope.specs.declared.place.Owner.TheVariants as owner
 use Rattle.actx_scope.specs.declared.place.Place.{Place}
+use Rattle.actx_scope.specs.declared.place.Role.{Role}
+use Rattle.actx_scope.specs.declared.place.Role.TheVariants as roles
 use Rattle.actx_scope.specs.Scopes.{Scope, fixed_slot, hidden_slots, slots_of, opened}
 
 -- ---- places
@@ -48,12 +50,6 @@ body_place f p = record p { can_await = is_async f; can_yield = is_generator f }
 
 -- ---- contexts
 
--- what is done with an expression, or with a function or a class
-pub data Role : Type 0 where
-  evaluated : Role
-  assigned : Role
-  declared : Role
-
 -- `earlier` are the names that stand before this place in the innermost scope.
 pub record Context : Type 0 where
   pub scopes : List Scope
@@ -63,7 +59,7 @@ pub record Context : Type 0 where
 
 -- around the statements of a file
 abbrev pub file_context : Context
-file_context = record { scopes = []; earlier = []; role = evaluated; place = file_place }
+file_context = record { scopes = []; earlier = []; role = roles.Evaluated; place = file_place }
 
 -- in a scope of these slots, if there are any, before which no name stands
 abbrev pub within : Scope → Context → Context
@@ -84,7 +80,7 @@ in_turn c = record c { place = turn_place c.place }
 
 -- in the parameters of a function that has these slots before them; the scope is there even where it has no slot
 abbrev pub in_params : Scope → List Units → Place → Context → Context
-in_params slots names p c = record { scopes = (slots ++ slots_of false names) ∷ c.scopes; earlier = []; role = evaluated; place = p }
+in_params slots names p c = record { scopes = (slots ++ slots_of false names) ∷ c.scopes; earlier = []; role = roles.Evaluated; place = p }
 
 abbrev pub in_arrow_params : List Units → Context → Context
 in_arrow_params names c = in_params [] names (arrow_place c.place) c
@@ -102,14 +98,14 @@ in_body f names c = record c { earlier = names; place = body_place f c.place }
 
 -- the own name of a function or a class, unless it is declared and so stands in the scope around it
 abbrev pub own_name : Role → Option Units → Option Units
-own_name evaluated name = name
-own_name assigned name = name
-own_name declared name = None
+own_name roles.Evaluated name = name
+own_name roles.Assigned name = name
+own_name roles.Declared name = None
 
 -- a class has a scope if it is an expression with a name
-abbrev named_scope : Option Units → Scope
+abbrev pub named_scope : Option Units → Scope
 named_scope None = []
 named_scope (Some name) = fixed_slot name ∷ []
 
 abbrev pub in_class : Option Units → Context → Context
-in_class name c = record c { scopes = opened (named_scope (own_name c.role name)) c.scopes; role = evaluated }
+in_class name c = record c { scopes = opened (named_scope (own_name c.role name)) c.scopes; role = roles.Evaluated }

@@ -39,7 +39,7 @@ Inside = Unread → Context → List Node
 -- the nodes of these marks: those in a body stand in the place of its mark
 unfoldable pub spread : Inside → List Mark → List Node
 spread inside [] = []
-spread inside (at_node names others uses ∷ ms) = record { errors = names ++ others; uses = uses } ∷ spread inside ms
+spread inside (at_node errors uses ∷ ms) = record { errors = errors; uses = uses } ∷ spread inside ms
 spread inside (at_body range c ∷ ms) = inside range c ++ spread inside ms
 
 -- The nodes in the body of a range, which is the body whose place and the range's give the count of tokens. The bodies in it

@@ -90,3 +90,7 @@ constructor_of = member_of false (method_of flow.Plain (key.Word (codes "constru
 
 abbrev pub two_constructors : Tree
 two_constructors = file (s.Class (class_of (Some a) None (constructor_of ∷ constructor_of ∷ [])) ∷ [])
+
+-- ({ a });
+abbrev pub unknown_shorthand : Tree
+unknown_shorthand = file (s.Expr (e.Brackets (e.Object (entry.Shorthand a ∷ []))) ∷ [])

@@ -5,6 +5,8 @@ pub mod Conditions
 pub mod Nodes
 pub mod Statements
 pub mod Early
-pub mod Sights
 pub mod Examples
+pub mod Bodies
+pub mod Walks
+pub mod Holds
 pub mod Laws

@@ -1,12 +1,12 @@
 -- The nodes of expressions, patterns, functions and classes, in source order, an outer one before an inner one: the early
 -- errors of each, and what the names mean that it uses.
 --
--- Which parts are nodes: each expression, function, method, class, object pattern and array pattern. Names in patterns and
--- in shorthands, keys, arguments, suffixes and members stand at the node that holds them.
+-- Which parts are nodes: each expression, a shorthand in an object too, since its name stands for a value; and each function,
+-- method, class, object pattern and array pattern. Names in patterns, keys, arguments, suffixes and members stand at the
+-- node that holds them.
 --
 -- A body isn't in the tree of its function: a mark stands in its place.
-use Rattle.std.specs.Prelude.{Bool, true, false, ◌||◌, List, [], ◌∷◌, ◌++◌, map, filter_map, Option, Some, None}
-use Rattle.std.specs.List.{list_any}
+use Rattle.std.specs.Prelude.{Bool, true, false, ◌||◌, List, [], ◌∷◌, ◌++◌, map, Option, Some, None}
 use Rattle.actx_text.specs.declared.units.Units.{Units}
 use Rattle.actx_tree.specs.Folds.{Steps, ExprOf, PieceOf, ArgumentOf, EntryOf, KeyOf, SuffixOf, OperandOf, FunctionOf, MethodOf, ClassOf, MemberOf, TargetOf, PropOf, ElemOf, ParamsOf, fold_expr, fold_function, fold_class, fold_target, fold_elem, fold_entry, fold_key, fold_member, fold_method, fold_params, fold_prop, fold_suffix, fold_argument, fold_operand, fold_piece}
 use Rattle.actx_tree.specs.declared.expr.Expr.{Expr, Expr-F}
@@ -37,13 +37,15 @@ use Rattle.actx_scope.specs.Scopes.{found}
 use Rattle.actx_scope.specs.declared.place.Owner.{Owner}
 use Rattle.actx_scope.specs.declared.place.Owner.TheVariants as owner
 use Rattle.actx_scope.specs.declared.place.Place.{Place}
-use Rattle.actx_scope.specs.Contexts.{Context, Role, evaluated, assigned, behind, as_role, owned_by, in_arrow_params, in_function_params, in_method_params, in_body, own_name, in_class}
+use Rattle.actx_scope.specs.declared.place.Role.{Role}
+use Rattle.actx_scope.specs.declared.place.Role.TheVariants as roles
+use Rattle.actx_scope.specs.Contexts.{Context, behind, as_role, owned_by, in_arrow_params, in_function_params, in_method_params, in_body, own_name, in_class}
 use Rattle.actx_scope.specs.Conditions.{when, is_redeclared, is_not_declared, is_const_assigned, is_bad_await, is_bad_yield, is_bad_super_call, is_bad_super_member, is_bad_delete, has_bad_key, is_wrong_constructor, is_derived_constructor}
 
--- A node with its early errors, first those about names and then the others, each in the order of the kinds, and with what
--- the names mean that stand at it, in source order; or the place of a body, with what is around its statements.
+-- A node with its early errors, in the order of the kinds, and with what the names mean that stand at it; or the place of a
+-- body, with what is around its statements.
 pub data Mark : Type 0 where
-  at_node : List EarlyKind → List EarlyKind → List Found → Mark
+  at_node : List EarlyKind → List Found → Mark
   at_body : Unread → Context → Mark
 
 -- the marks in a part, for what is around it
@@ -52,14 +54,12 @@ Marks = Context → List Mark
 
 -- What those around a part ask of it. `names` are those that a pattern or parameters bind, or that a function or a class
 -- has. `repeats` says whether a name that stands at the node around the part is among these, or stands before it in the part.
--- `word` is a key that is a word or a text: of a method that isn't static, and of a value of an object. `uses` is the name of a
--- shorthand.
+-- `word` is a key that is a word or a text: of a method that isn't static, and of a value of an object.
 pub record Part : Type 0 where
   pub marks : Marks
   pub names : List Units
   pub repeats : List Units → Bool
   pub word : Option Units
-  pub uses : List Units
   pub is_member : Bool
 
 -- ---- marks of parts
@@ -73,6 +73,11 @@ both f g c = f c ++ g c
 abbrev pub all : List Part → Marks
 all [] c = []
 all (p ∷ ps) c = p.marks c ++ all ps c
+
+-- the values of a part that may be left out
+abbrev pub mapped : {A B : Type 0} → (A → B) → Option A → Option B
+mapped f None = None
+mapped f (Some x) = Some (f x)
 
 abbrev pub or_none : Option Part → Marks
 or_none None c = []
@@ -96,14 +101,14 @@ with_owner o f c = f (owned_by o c)
 
 -- a node with these errors, and what is in it
 abbrev pub node : (Place → List EarlyKind) → Marks → Marks
-node errors f c = at_node [] (errors c.place) [] ∷ f (as_role evaluated c)
+node errors f c = at_node (errors c.place) [] ∷ f (as_role roles.Evaluated c)
 
 abbrev pub sound : Place → List EarlyKind
 sound p = []
 
 -- a part that nothing is asked of
 abbrev pub quiet : Marks → Part
-quiet f = record { marks = f; names = []; repeats = λ earlier. false; word = None; uses = []; is_member = false }
+quiet f = record { marks = f; names = []; repeats = λ earlier. false; word = None; is_member = false }
 
 -- ---- what is asked of lists
 
@@ -115,10 +120,6 @@ all_names (p ∷ ps) = p.names ++ all_names ps
 abbrev pub any_repeats : List Part → List Units → Bool
 any_repeats [] earlier = false
 any_repeats (p ∷ ps) earlier = p.repeats earlier || any_repeats ps (earlier ++ p.names)
-
-abbrev pub all_uses : List Part → List Units
-all_uses [] = []
-all_uses (p ∷ ps) = p.uses ++ all_uses ps
 
 abbrev pub word_of : Part → Option Units
 word_of p = p.word
@@ -137,13 +138,10 @@ listed (Some x) = x ∷ []
 -- a use of a name
 abbrev pub name_node : Units → Marks
 name_node name c = let x = found c.scopes name in
-    at_node (when (is_not_declared x) kind.NotDeclared ++ when (is_const_assigned c.role x) kind.ConstAssigned) [] (listed x) ∷ []
+    at_node (when (is_not_declared x) kind.NotDeclared ++ when (is_const_assigned c.role x) kind.ConstAssigned) (listed x) ∷ []
 
--- an object with the names that its shorthands use
 abbrev pub object_node : List Part → Marks
-object_node entries c = let xs = map (found c.scopes) (all_uses entries) in
-    at_node (when (list_any is_not_declared xs) kind.NotDeclared) (when (has_bad_key (map word_of entries)) kind.BadKey) (filter_map (λ (x : Option Found). x) xs)
-    ∷ all entries (as_role evaluated c)
+object_node entries c = at_node (when (has_bad_key (map word_of entries)) kind.BadKey) [] ∷ all entries (as_role roles.Evaluated c)
 
 -- the error of an operator before an operand that is a member or not
 abbrev pub unary_errors : UnaryOp → Bool → Place → List EarlyKind
@@ -162,7 +160,7 @@ arrow_flow false = flow.Plain
 -- an arrow with its parameters and its body
 abbrev pub arrow_node : Bool → Part → Marks → Marks
 arrow_node is_async params body c = let p = in_arrow_params params.names c in
-    at_node (when (params.repeats []) kind.Redeclared) [] [] ∷ (params.marks p ++ body (in_body (arrow_flow is_async) params.names p))
+    at_node (when (params.repeats []) kind.Redeclared) [] ∷ (params.marks p ++ body (in_body (arrow_flow is_async) params.names p))
 
 abbrev pub body_marks : Unread → Marks
 body_marks range c = at_body range c ∷ []
@@ -184,12 +182,12 @@ expr_step (Expr-F.Function f) = f
 expr_step (Expr-F.Class c) = c
 expr_step (Expr-F.New x suffixes arguments) = quiet (node sound (both x.marks (both (all suffixes) (or_none_all arguments))))
 expr_step (Expr-F.Left x suffixes) = record (quiet (node sound (both x.marks (all suffixes)))) { is_member = last_is_member false suffixes }
-expr_step (Expr-F.StepBefore op x) = quiet (node sound (with_role assigned x.marks))
-expr_step (Expr-F.StepAfter x op) = quiet (node sound (with_role assigned x.marks))
+expr_step (Expr-F.StepBefore op x) = quiet (node sound (with_role roles.Assigned x.marks))
+expr_step (Expr-F.StepAfter x op) = quiet (node sound (with_role roles.Assigned x.marks))
 expr_step (Expr-F.Unary op x) = quiet (node (unary_errors op x.is_member) x.marks)
 expr_step (Expr-F.Chain x operands) = quiet (node sound (both x.marks (all operands)))
 expr_step (Expr-F.Conditional test first other) = quiet (node sound (both test.marks (both first.marks other.marks)))
-expr_step (Expr-F.Assign place op x) = quiet (node sound (both (with_role assigned place.marks) x.marks))
+expr_step (Expr-F.Assign place op x) = quiet (node sound (both (with_role roles.Assigned place.marks) x.marks))
 expr_step (Expr-F.Yield x) = quiet (node (λ p. when (is_bad_yield p) kind.BadYield) (or_none x))
 expr_step (Expr-F.Arrow is_async params x) = quiet (arrow_node is_async params x.marks)
 expr_step (Expr-F.ArrowBlock is_async params body) = quiet (arrow_node is_async params (body_marks body))
@@ -204,7 +202,7 @@ argument_step (Argument-F.Argument::Spread x) = quiet x.marks
 
 abbrev pub entry_step : EntryOf Part → Part
 entry_step (Entry-F.Entry::Spread x) = quiet x.marks
-entry_step (Entry-F.Entry::Shorthand name) = record (quiet none) { uses = name ∷ [] }
+entry_step (Entry-F.Entry::Shorthand name) = quiet (name_node name)
 entry_step (Entry-F.Entry::Pair key x) = record (quiet (both key.marks x.marks)) { word = key.word }
 entry_step (Entry-F.Method m) = quiet (with_owner owner.Other m.marks)
 
@@ -226,15 +224,15 @@ operand_step o = quiet o.right.marks
 
 abbrev pub function_node : Flow → Option Units → Part → Unread → Marks
 function_node f name params body c = let p = in_function_params (own_name c.role name) params.names c in
-    at_node (when (is_redeclared c.role name c.earlier || params.repeats []) kind.Redeclared) [] [] ∷ (params.marks p ++ at_body body (in_body f params.names p) ∷ [])
+    at_node (when (is_redeclared c.role name c.earlier || params.repeats []) kind.Redeclared) [] ∷ (params.marks p ++ at_body body (in_body f params.names p) ∷ [])
 
 abbrev pub function_step : FunctionOf Part → Part
 function_step f = record (quiet (function_node f.flow f.name f.params f.body)) { names = listed f.name }
 
 abbrev pub method_node : Flow → Part → Part → Unread → Marks
 method_node f key params body c = let p = in_method_params (is_derived_constructor c.place.owner key.word) params.names c in
-    at_node (when (params.repeats []) kind.Redeclared) (when (is_wrong_constructor c.place.owner key.word f) kind.TwoConstructors) []
-    ∷ (key.marks (as_role evaluated c) ++ (params.marks p ++ at_body body (in_body f params.names p) ∷ []))
+    at_node (when (params.repeats []) kind.Redeclared ++ when (is_wrong_constructor c.place.owner key.word f) kind.TwoConstructors) []
+    ∷ (key.marks (as_role roles.Evaluated c) ++ (params.marks p ++ at_body body (in_body f params.names p) ∷ []))
 
 abbrev pub method_step : MethodOf Part → Part
 method_step m = record (quiet (method_node m.flow m.key m.params m.body)) { word = m.key.word }
@@ -254,7 +252,7 @@ has_some (Some x) = true
 
 abbrev pub class_node : Option Units → Option Part → List Part → Marks
 class_node name parent members c = let d = in_class name c in
-    at_node (when (is_redeclared c.role name c.earlier) kind.Redeclared) [] [] ∷ (or_none parent d ++ members_marks members (has_some parent) false d)
+    at_node (when (is_redeclared c.role name c.earlier) kind.Redeclared) [] ∷ (or_none parent d ++ members_marks members (has_some parent) false d)
 
 abbrev pub class_step : ClassOf Part → Part
 class_step c = record (quiet (class_node c.name c.parent c.members)) { names = listed c.name }
@@ -278,7 +276,7 @@ rest_names rest = map bound_name (listed rest)
 
 -- a node that binds what these parts bind
 abbrev pub binding_node : List Part → Marks
-binding_node ps c = at_node (when (any_repeats ps c.earlier) kind.Redeclared) [] [] ∷ binding ps (as_role evaluated c)
+binding_node ps c = at_node (when (any_repeats ps c.earlier) kind.Redeclared) [] ∷ binding ps (as_role roles.Evaluated c)
 
 -- a pattern of these parts; it holds the names that stand right in it
 abbrev pub pattern_part : List Part → Part

@@ -34,7 +34,7 @@ abbrev pub global_slots : Scope
 global_slots = map fixed_slot global_names
 
 -- a slot and its number, or else another one
-abbrev or_else : Option (ℕ × Bool) → Option (ℕ × Bool) → Option (ℕ × Bool)
+abbrev pub or_else : Option (ℕ × Bool) → Option (ℕ × Bool) → Option (ℕ × Bool)
 or_else None other = other
 or_else (Some x) other = Some x
 

@@ -12,8 +12,9 @@ use Rattle.actx_tree.specs.declared.stmt.Catch.{Catch}
 use Rattle.actx_tree.specs.declared.stmt.ForInit.{ForInit}
 use Rattle.actx_tree.specs.declared.stmt.ForInit.TheVariants as init
 use Rattle.actx_scope.specs.declared.early.EarlyKind.TheVariants as kind
+use Rattle.actx_scope.specs.declared.place.Role.TheVariants as roles
 use Rattle.actx_scope.specs.Scopes.{Scope, slots_of, slot_names}
-use Rattle.actx_scope.specs.Contexts.{declared, within, behind, in_turn}
+use Rattle.actx_scope.specs.Contexts.{within, behind, in_turn}
 use Rattle.actx_scope.specs.Conditions.{when, is_bad_break, is_bad_return}
 use Rattle.actx_scope.specs.Nodes.{Marks, Part, none, both, node, sound, with_role, all_names, binding_node, expr_part, function_part, class_part, target_part, elem_part}
 
@@ -74,7 +75,7 @@ target_slots is_const target = slots_of is_const (target_part target).names
 
 -- a function or a class
 abbrev pub declaration : Part → Statement
-declaration p = record { marks = with_role declared p.marks; slots = slots_of true p.names }
+declaration p = record { marks = with_role roles.Declared p.marks; slots = slots_of true p.names }
 
 -- what comes first in the head of a `for`
 abbrev pub for_init_slots : ForInit → Scope

@@ -3,12 +3,13 @@
 
 ghost use Rattle.actx_scope.specs.Nodes as nodes;
 ghost use Rattle.actx_scope.specs.Conditions as condition;
-ghost use Rattle.actx_scope.specs.Sights.{first};
 ghost use Rattle.actx_scope.specs.Words.{is_word, constructor_word, proto_word};
-ghost use Rattle.std.specs.Prelude.{◌≡◌, map, false};
+ghost use Rattle.actx_scope.specs.declared.early.EarlyKind.TheVariants as kind;
+ghost use Rattle.std.specs.Prelude.{◌≡◌, ◌++◌, ◌||◌, map, false};
 
 use crate::early::EarlyKind;
-use crate::place::{Owner, Place};
+use crate::place::{Owner, Place, Role};
+use crate::slot::Found;
 use crate::words::{is_constructor, is_proto};
 use actx_tree::{Entry, Expr, Flow, Key, Member, Suffix, UnaryOp};
 
@@ -118,14 +119,14 @@ pub fn has_bad_key(entries: &[Entry]) -> bool
 
 /// The error of a kind, if its condition holds.
 pub fn when(holds: bool, kind: EarlyKind) -> Option<EarlyKind>
-    ensures { result ≡ first (condition.when holds kind) }
+    ensures { result ≡ condition.first (condition.when holds kind) }
 {
     if holds { Some(kind) } else { None }
 }
 
 /// The error of an operator before an operand that is a member or not: BadDelete or BadAwait.
 pub fn unary_error(op: UnaryOp, is_member: bool, place: Place) -> Option<EarlyKind>
-    ensures { result ≡ first (nodes.unary_errors op is_member place) }
+    ensures { result ≡ condition.first (nodes.unary_errors op is_member place) }
 {
     match op {
         UnaryOp::Delete => when(!is_member, EarlyKind::BadDelete),
@@ -174,5 +175,44 @@ pub fn is_derived_constructor(owner: Owner, key: &Key) -> bool
     match owner {
         Owner::Class(has_parent, _) => has_parent && is_constructor_key(key),
         Owner::Other => false,
+    }
+}
+
+/// Whether one of two is so.
+pub fn either(one: bool, other: bool) -> bool
+    ensures { result ≡ (one || other) }
+{
+    one || other
+}
+
+/// How the body of an arrow runs.
+pub fn arrow_flow_of(is_async: bool) -> Flow
+    ensures { result ≡ nodes.arrow_flow is_async }
+{
+    if is_async { Flow::Async } else { Flow::Plain }
+}
+
+/// The error of the use of a name in this role that means this.
+pub fn name_error(role: Role, found: Option<Found>) -> Option<EarlyKind>
+    ensures { result ≡ condition.first (condition.when (condition.is_not_declared found) kind.NotDeclared ++ condition.when (condition.is_const_assigned role found) kind.ConstAssigned) }
+{
+    match found {
+        None => Some(EarlyKind::NotDeclared),
+        Some(found) => match role {
+            Role::Assigned => when(found.is_fixed, EarlyKind::ConstAssigned),
+            Role::Evaluated => None,
+            Role::Declared => None,
+        },
+    }
+}
+
+/// The first error of a method.
+pub fn method_error(repeats: bool, is_wrong: bool) -> Option<EarlyKind>
+    ensures { result ≡ condition.first (condition.when repeats kind.Redeclared ++ condition.when is_wrong kind.TwoConstructors) }
+{
+    if repeats {
+        Some(EarlyKind::Redeclared)
+    } else {
+        when(is_wrong, EarlyKind::TwoConstructors)
     }
 }

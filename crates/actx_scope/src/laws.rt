@@ -25,6 +25,7 @@ pub fn names_of_files()
     ensures declared_twice { early_errors example.declared_twice ≡ record { kind = kind.Redeclared; at = 1 } ∷ [] }
     ensures in_a_block { early_errors example.declared_in_a_block ≡ [] }
     ensures unknown { early_errors example.unknown_name ≡ record { kind = kind.NotDeclared; at = 1 } ∷ [] }
+    ensures shorthand { early_errors example.unknown_shorthand ≡ record { kind = kind.NotDeclared; at = 3 } ∷ [] }
     ensures global { early_errors example.global_name ≡ [] }
     ensures global_use { name_uses example.global_name ≡ record { at = 1; name = record { hops = 0; slot = 1; is_global = true; is_fixed = true } } ∷ [] }
     ensures const_assigned { early_errors example.const_assigned ≡ record { kind = kind.ConstAssigned; at = 4 } ∷ [] }

@@ -3,18 +3,24 @@
 //! for the profile of docs/SCOPES.md).
 #![tactic(auto)]
 
+mod bodies;
+mod bound;
 mod conditions;
+mod earlier;
 mod early;
+mod findings;
+mod globals;
 mod laws;
 mod place;
-mod sight;
+mod repeats;
+mod scopes;
 mod slot;
+mod table;
 mod walk;
 mod words;
 
 pub use conditions::{has_bad_key, is_constructor_key, is_member};
 pub use early::{Early, EarlyKind};
 pub use laws::{errors_in_order, forms_of_files, names_of_files, places_of_words};
-pub use place::{Owner, Place};
-pub use sight::Sight;
+pub use place::{Owner, Place, Role};
 pub use slot::{Found, Slot, Use};

@@ -1,5 +1,6 @@
 //! What stands around a node, without the names.
 
+ghost use Rattle.actx_scope.specs.Contexts as contexts;
 ghost use Rattle.actx_scope.specs.Contexts.{arrow_place, method_place, function_place, body_place, turn_place, owned_place};
 ghost use Rattle.std.specs.Prelude.{◌≡◌};
 
@@ -13,6 +14,17 @@ pub enum Owner {
     Class(bool, bool),
     /// Any other method.
     Other,
+}
+
+/// What is done with an expression, or with a function or a class.
+#[derive(Clone, Copy, Debug, PartialEq, Eq)]
+pub enum Role {
+    /// Its value is taken.
+    Evaluated,
+    /// It is a place that is assigned.
+    Assigned,
+    /// It is a declaration.
+    Declared,
 }
 
 /// What stands around a node, as far as early errors ask for it that aren't about names.
@@ -103,5 +115,20 @@ impl Place {
         let mut place = self;
         place.owner = owner;
         place
+    }
+}
+
+/// Around the statements of a file.
+pub fn file_place() -> Place
+    ensures { result ≡ contexts.file_place }
+{
+    Place {
+        owner: Owner::Other,
+        in_loop: false,
+        in_function: false,
+        can_await: false,
+        can_yield: false,
+        can_super_call: false,
+        can_super_member: false,
     }
 }

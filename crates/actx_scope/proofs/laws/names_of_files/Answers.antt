@@ -24,3 +24,6 @@ returns-clause-parameter c = worked.parameter
 
 pub returns-clause-parameter_use : goal.returns-clause-parameter_use
 returns-clause-parameter_use c = worked.parameter_use
+
+pub returns-clause-shorthand : goal.returns-clause-shorthand
+returns-clause-shorthand c = worked.shorthand

@@ -1,0 +1,9 @@
+mod ExtremeLemmas
+mod RangeLemmas
+mod CopyLemmas
+mod BoundLemmas
+mod PieceLemmas
+mod FindLemmas
+mod PlaceLemmas
+mod JoinLemmas
+mod LengthLemmas

@@ -1,0 +1,11 @@
+pub mod Arguments
+pub mod Bounds
+pub mod Conversions
+pub mod Places
+pub mod Searches
+pub mod Pieces
+pub mod Padding
+pub mod Splits
+pub mod Numbers
+pub mod Natives
+pub mod Laws

@@ -13,7 +13,7 @@ repeat_more (suc n) xs =
     append_assoc xs (repeat n xs) xs ∙ ap (λ ys. xs ++ ys) (repeat_more n xs) ∙ sym (ap (λ k. repeat k xs) next)
 
 -- copies of the empty text
-pub repeat_none : (n : ℕ) → repeat n [] ≡ []
+pub repeat_none : (n : ℕ) → repeat {A = ℕ} n [] ≡ []
 repeat_none zero = refl
 repeat_none (suc n) = repeat_none n
 

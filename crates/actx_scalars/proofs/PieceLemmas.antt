@@ -1,6 +1,6 @@
 -- Pieces of a text, one at a time.
 use Rattle.std.proofs.Common.{◌≡◌, ℕ, suc, ◌<◌, ◌+◌, ◌-◌, List, [], ◌∷◌, ◌++◌, length, take, drop, get_or, Option, Some, None, sym, ap, ◌∙◌, arith}
-use Rattle.std.proofs.lemmas.List.{length-map, take_more, get_or-map, drop_more, append_assoc}
+use Rattle.std.proofs.lemmas.List.{length-map, take_more, take_rest, get_or-map, drop_more, append_assoc}
 use Rattle.std.specs.List.{slice_range}
 use Rattle.std.specs.Option.{option_map_or}
 use Rattle.actx_scalars.specs.Searches.{first_place}
@@ -20,7 +20,7 @@ apart_more text i within =
     ap (λ p. take i (units_apart text) ++ p ∷ []) (unit_part text i within ∙ sym unit) ∙ sym (take_more (units_apart text) i [] there)
 
 -- the piece before a separator, and those behind it
-pub next_piece : (most i : ℕ) (text separator : List ℕ) (from j : ℕ) → i < most → first_place text separator from ≡ Some j
+next_piece : (most i : ℕ) (text separator : List ℕ) (from j : ℕ) → i < most → first_place text separator from ≡ Some j
     → pieces_from (most - i) text separator from ≡ slice_range text from j ∷ pieces_from (most - (i + 1)) text separator (j + length separator)
 next_piece most i text separator from j below e =
     let left : most - i ≡ suc (most - (i + 1)) = omega arith in
@@ -28,13 +28,27 @@ next_piece most i text separator from j below e =
     ∙ ap (λ o. option_map_or (λ j. slice_range text from j ∷ pieces_from (most - (i + 1)) text separator (j + length separator)) o (drop from text ∷ [])) e
 
 -- the last piece
-pub last_piece : (most i : ℕ) (text separator : List ℕ) (from : ℕ) → i < most → first_place text separator from ≡ None
+last_piece : (most i : ℕ) (text separator : List ℕ) (from : ℕ) → i < most → first_place text separator from ≡ None
     → pieces_from (most - i) text separator from ≡ drop from text ∷ []
 last_piece most i text separator from below e =
     let left : most - i ≡ suc (most - (i + 1)) = omega arith in
     ap (λ m. pieces_from m text separator from) left
     ∙ ap (λ o. option_map_or (λ j. slice_range text from j ∷ pieces_from (most - (i + 1)) text separator (j + length separator)) o (drop from text ∷ [])) e
 
--- one piece more among those that were made
-pub one_more : (made : List (List ℕ)) (p : List ℕ) (rest : List (List ℕ)) → (made ++ p ∷ []) ++ rest ≡ made ++ (p ∷ rest)
-one_more made p rest = append_assoc made (p ∷ []) rest
+-- the pieces that were made and those behind them, one piece later
+pub piece_more : (most i : ℕ) (text separator : List ℕ) (from j : ℕ) (made whole : List (List ℕ)) → i < most → first_place text separator from ≡ Some j
+    → made ++ pieces_from (most - i) text separator from ≡ whole
+    → (made ++ slice_range text from j ∷ []) ++ pieces_from (most - (i + 1)) text separator (j + length separator) ≡ whole
+piece_more most i text separator from j made whole below e all =
+    append_assoc made (slice_range text from j ∷ []) (pieces_from (most - (i + 1)) text separator (j + length separator))
+    ∙ ap (λ ps. made ++ ps) (sym (next_piece most i text separator from j below e))
+    ∙ all
+
+-- the last one; the rest of the text is read as so many units from there on
+pub piece_last : (most i : ℕ) (text separator : List ℕ) (from : ℕ) (made whole : List (List ℕ)) → i < most → first_place text separator from ≡ None
+    → made ++ pieces_from (most - i) text separator from ≡ whole
+    → made ++ take (length text - from) (drop from text) ∷ [] ≡ whole
+piece_last most i text separator from made whole below e all =
+    ap (λ p. made ++ p ∷ []) (take_rest text from)
+    ∙ ap (λ ps. made ++ ps) (sym (last_piece most i text separator from below e))
+    ∙ all

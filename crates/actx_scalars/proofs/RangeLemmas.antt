@@ -10,7 +10,7 @@ found_here p i n below good =
 pub found_later : (p : ℕ → Bool) (i n : ℕ) → i < n → p i ≡ false → find p (range_with_len i (n - i)) ≡ find p (range_with_len (i + 1) (n - (i + 1)))
 found_later p i n below bad =
     let e : n - i ≡ suc (n - (i + 1)) = omega arith in
-    ap (λ k. find p (range_with_len i k)) e ∙ ap (λ b. cond b (Some i) (find p (range_with_len (i + 1) (n - (i + 1))))) no
+    ap (λ k. find p (range_with_len i k)) e ∙ ap (λ b. cond b (Some i) (find p (range_with_len (i + 1) (n - (i + 1))))) bad
 
 pub found_nowhere : (p : ℕ → Bool) (i n : ℕ) → n ≤ i → find p (range_with_len i (n - i)) ≡ None
 found_nowhere p i n past = let e : n - i ≡ 0 = omega arith in ap (λ k. find p (range_with_len i k)) e

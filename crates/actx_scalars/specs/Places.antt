@@ -1,7 +1,7 @@
 -- Places in a text of this length.
 use Rattle.std.specs.Prelude.{ℕ, suc, ◌-◌, min, ℤ, pos, negsuc}
 
--- a position as a place between 0 and the length (as in ECMA-262 §22.1.3.10)
+-- a position as a place between 0 and the length (as in ECMA-262 §22.1.3.9)
 abbrev pub clamped : ℕ → ℤ → ℕ
 clamped len (pos n) = min n len
 clamped len (negsuc n) = 0

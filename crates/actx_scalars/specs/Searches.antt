@@ -19,7 +19,7 @@ abbrev pub first_place : List ℕ → List ℕ → ℕ → Option ℕ
 first_place text search from =
     find (stands_at text search) (range_with_len from (length text + 1 - length search - from))
 
--- indexOf(searchString, position) (§22.1.3.10): −1 where it stands nowhere
+-- indexOf(searchString, position) (§22.1.3.9): −1 where it stands nowhere
 abbrev pub place_number : Option ℕ → ℤ
 place_number (Some i) = pos i
 place_number None = negsuc 0

@@ -31,7 +31,7 @@ pub enum ValueFunction {
 pub enum TextMethod {
     /// `slice(start, end)` (ECMA-262 §22.1.3.22).
     Slice,
-    /// `indexOf(searchString, position)` (ECMA-262 §22.1.3.10).
+    /// `indexOf(searchString, position)` (ECMA-262 §22.1.3.9).
     IndexOf,
     /// `includes(searchString, position)` (ECMA-262 §22.1.3.8).
     Includes,

@@ -3,7 +3,7 @@
 ghost use Rattle.std.specs.Prelude.{◌≡◌, ◌≤◌};
 ghost use Rattle.actx_scalars.specs.Places.{clamped, relative};
 
-/// A position as a place between 0 and the length (as in ECMA-262 §22.1.3.10).
+/// A position as a place between 0 and the length (as in ECMA-262 §22.1.3.9).
 pub(crate) fn clamped(len: usize, position: i64) -> usize
     ensures value { result ≡ clamped len position }
     ensures within { result ≤ len }

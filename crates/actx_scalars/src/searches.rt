@@ -28,7 +28,7 @@ fn search_arguments(
     }
 }
 
-/// `indexOf(searchString, position)` (ECMA-262 §22.1.3.10).
+/// `indexOf(searchString, position)` (ECMA-262 §22.1.3.9).
 pub(crate) fn index_value(
     alloc: Global,
     this: Value,

@@ -1,8 +1,6 @@
 -- What the work between two requests leads to.
 use Rattle.std.specs.Prelude.{◌≡◌, List, Result, Ok, Err}
 use Rattle.std.specs.declared.alloc.AllocError.{AllocError}
-use Rattle.std.specs.declared.alloc.Global.{Global}
-use Rattle.std.specs.declared.vec.Vec.{Vec}
 use Rattle.actx_value.specs.declared.value.Value.{Value}
 use Rattle.actx_value.specs.declared.value.Value.TheVariants as values
 use Rattle.actx_want.specs.declared.completion.Completion.{Completion}
@@ -12,6 +10,7 @@ use Rattle.actx_frame.specs.declared.items.Item.{Item}
 use Rattle.actx_frame.specs.declared.items.Control.{Control}
 use Rattle.actx_frame.specs.declared.machine.Want.{Want}
 use Rattle.actx_frame.specs.declared.machine.Want.TheVariants as wants
+use Rattle.actx_frame.specs.declared.machine.Wanted.{Wanted}
 use Rattle.actx_frame.specs.declared.machine.Piece.{Piece}
 use Rattle.actx_frame.specs.declared.machine.Piece.TheVariants as pieces
 use Rattle.actx_frame.specs.Work.{Work}
@@ -34,13 +33,13 @@ rest_of (wants.Throw v) list k = λ more. Throws v
 -- what a piece of work leads to, with what is kept then
 unfoldable pub piece_run : Piece → Next' → Run
 piece_run (pieces.On c) k = control_work c k
-piece_run (pieces.Out w list) k = rest_of w list.items k
+piece_run (pieces.Out w) k = rest_of w.want w.list.items k
 
 unfoldable pub Works : Result Piece AllocError → List Item → Run → Type 0
 Works (Ok t) stack r = piece_run t (kept stack) ≡ r
 Works (Err e) stack r = Unit {0}
 
 -- what all the work up to the next request leads to
-unfoldable pub Settles : Result (Want × Vec Value Global) AllocError → List Item → Run → Type 0
-Settles (Ok x) stack r = rest_of x.0 x.1.items (kept stack) ≡ r
+unfoldable pub Settles : Result Wanted AllocError → List Item → Run → Type 0
+Settles (Ok w) stack r = rest_of w.want w.list.items (kept stack) ≡ r
 Settles (Err e) stack r = Unit {0}

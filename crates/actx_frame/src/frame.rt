@@ -2,12 +2,12 @@
 
 ghost use Rattle.std.specs.Prelude.{◌≡◌, IfOk, OnOk, List, [], ◌∷◌};
 ghost use Rattle.actx_value.specs.declared.value.Answer.{Answer};
-ghost use Rattle.actx_want.specs.Bodies.{wants_after};
+ghost use Rattle.actx_want.specs.Bodies.{form_wants, wants_after};
 ghost use Rattle.actx_frame.specs.Frames.{rest, wanted, args_of};
 
 use crate::items::{Control, Item};
-use crate::machine::{Want, begin, completion, run};
-use actx_code::Code;
+use crate::machine::{Want, Wanted, begin, completion, run};
+use actx_code::{Code, Form};
 use actx_text::BodyId;
 use actx_value::{Answer, ScopeId, Value};
 use std::alloc::{AllocError, Global};
@@ -35,21 +35,17 @@ impl Frame {
         body: BodyId,
         scope: ScopeId,
     ) -> Result<Frame, AllocError>
-        ensures law { IfOk result (λ f. (more : List Answer) → rest f more ≡ wants_after code.now body scope more) }
+        ensures law { IfOk result (λ f. rest f ≡ wants_after code.now body scope) }
     {
-        let mut stack = Vec::new(alloc);
-        let (want, list) = match code.body(body) {
-            None => (Want::Return(Value::Undefined), Vec::new(alloc)),
-            Some(body) => {
-                begin(alloc, &mut stack, &body.form, scope)?
-            }
-        };
-        Ok(Frame {
-            alloc,
-            stack,
-            want,
-            list,
-        })
+        match code.body(body) {
+            None => Ok(Frame {
+                alloc,
+                stack: Vec::new(alloc),
+                want: Want::Return(Value::Undefined),
+                list: Vec::new(alloc),
+            }),
+            Some(body) => of_form(alloc, &body.form, scope),
+        }
     }
 
     /// What the body wants now: a request, or how it ended.
@@ -74,11 +70,29 @@ impl Frame {
         ensures law { OnOk result ((more : List Answer) → rest self.new more ≡ rest self.old (a ∷ more)) }
         ensures wanted { IfOk result (λ w. rest self.new [] ≡ wanted w (args_of self.new)) }
     {
-        if let Want::Ask(_) = self.want {
-            let (want, list) = run(self.alloc, &mut self.stack, Control::Done(completion(a)))?;
-            self.want = want;
-            self.list = list;
+        match self.want {
+            Want::Ask(_) => {
+                let wanted = run(self.alloc, &mut self.stack, Control::Done(completion(a)))?;
+                self.want = wanted.want;
+                self.list = wanted.list;
+                Ok(wanted.want)
+            }
+            ended => Ok(ended),
         }
-        Ok(self.want)
     }
+}
+
+/// A frame of this form.
+#[tactic(auto, using(crate::proofs::MachineLaws::frame_laws))]
+fn of_form(alloc: Global, form: &Form, scope: ScopeId) -> Result<Frame, AllocError>
+    ensures law { IfOk result (λ f. rest f ≡ form_wants form.now scope) }
+{
+    let mut stack = Vec::new(alloc);
+    let Wanted { want, list } = begin(alloc, &mut stack, form, scope)?;
+    Ok(Frame {
+        alloc,
+        stack,
+        want,
+        list,
+    })
 }

@@ -69,7 +69,7 @@ fn moved(held: ForLoop, v: Value) -> ForLoop
 }
 
 /// What a step of a `while` or a `do` does with a value.
-#[tactic(auto, using(crate::proofs::LoopLaws::while_laws))]
+#[tactic(auto, using(crate::proofs::LoopLaws::loop_laws))]
 pub fn resume_loop(held: LoopStep, v: Value) -> Result<Next, AllocError>
     ensures leads { Leads result (loop_work held v) }
 {

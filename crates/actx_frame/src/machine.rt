@@ -81,11 +81,18 @@ fn put(stack: &mut Vec<Item>, next: Next) -> Result<Control, AllocError>
     }
 }
 
-/// A piece of work: it leads on, or out with what is wanted and its list.
+/// What is wanted, and its list.
+#[derive(Drop)]
+pub struct Wanted {
+    pub want: Want,
+    pub list: Vec<Value>,
+}
+
+/// What a piece of work leads to: further work, or what is wanted.
 #[derive(Drop)]
 pub enum Piece {
     On(Control),
-    Out(Want, Vec<Value>),
+    Out(Wanted),
 }
 
 /// What is wanted where nothing is left to do with a completion.
@@ -101,24 +108,57 @@ fn ended(c: Completion) -> Want
     }
 }
 
-/// What a part leads to, or a completion.
+/// Goes on with the items on the stack.
+#[tactic(auto, using(crate::proofs::MachineLaws::on_laws))]
+fn on(stack: &mut Vec<Item>, next: Next) -> Result<Piece, AllocError>
+    ensures leads { Works result stack.new.items (next_work next (kept stack.old.items)) }
+{
+    Ok(Piece::On(put(stack, next)?))
+}
+
+/// Goes on with a completion.
+#[tactic(auto, using(crate::proofs::MachineLaws::done_laws))]
+fn complete(alloc: Global, stack: &mut Vec<Item>, c: Completion) -> Result<Piece, AllocError>
+    ensures leads { Works result stack.new.items (kept stack.old.items c) }
+{
+    match stack.pop() {
+        None => Ok(Piece::Out(Wanted {
+            want: ended(c),
+            list: Vec::new(alloc),
+        })),
+        Some(item) => {
+            let next = resume(alloc, item, c)?;
+            on(stack, next)
+        }
+    }
+}
+
+/// One piece of work.
 #[tactic(auto, using(crate::proofs::MachineLaws::work_laws))]
 fn work(alloc: Global, stack: &mut Vec<Item>, control: Control) -> Result<Piece, AllocError>
     ensures leads { Works result stack.new.items (control_work control (kept stack.old.items)) }
 {
-    let next = match control {
-        Control::Ask(request) => return Ok(Piece::Out(Want::Ask(request), Vec::new(alloc))),
-        Control::AskWith(request, list) => return Ok(Piece::Out(Want::Ask(request), list)),
-        Control::Done(c) => match stack.pop() {
-            None => return Ok(Piece::Out(ended(c), Vec::new(alloc))),
-            Some(item) => resume(alloc, item, c)?,
-        },
-        Control::Eval(e, p) => enter(alloc, &e, p)?,
-        Control::UseKey(key, p, held) => begin_key(key, p, held),
-        Control::Bind(pattern, p, v) => bind(alloc, &pattern, p, v)?,
-        Control::BindElement(element, p, v) => bind_element(element, p, v),
-    };
-    Ok(Piece::On(put(stack, next)?))
+    match control {
+        Control::Ask(request) => Ok(Piece::Out(Wanted {
+            want: Want::Ask(request),
+            list: Vec::new(alloc),
+        })),
+        Control::AskWith(request, list) => Ok(Piece::Out(Wanted {
+            want: Want::Ask(request),
+            list,
+        })),
+        Control::Done(c) => complete(alloc, stack, c),
+        Control::Eval(e, p) => {
+            let next = enter(alloc, &e, p)?;
+            on(stack, next)
+        }
+        Control::UseKey(key, p, held) => on(stack, begin_key(key, p, held)),
+        Control::Bind(pattern, p, v) => {
+            let next = bind(alloc, &pattern, p, v)?;
+            on(stack, next)
+        }
+        Control::BindElement(element, p, v) => on(stack, bind_element(element, p, v)),
+    }
 }
 
 /// Works until something is asked for, or the body has ended. It gives up after 2^64 - 1 pieces of work
@@ -129,14 +169,14 @@ pub fn run(
     alloc: Global,
     stack: &mut Vec<Item>,
     control: Control,
-) -> Result<(Want, Vec<Value>), AllocError>
+) -> Result<Wanted, AllocError>
     ensures leads { Settles result stack.new.items (control_work control (kept stack.old.items)) }
 {
     let mut control = control;
     for _piece in 0..u64::MAX {
         match work(alloc, stack, control)? {
             Piece::On(next) => control = next,
-            Piece::Out(want, list) => return Ok((want, list)),
+            Piece::Out(wanted) => return Ok(wanted),
         }
     }
     Err(AllocError)
@@ -160,7 +200,7 @@ pub fn begin(
     stack: &mut Vec<Item>,
     form: &Form,
     p: ScopeId,
-) -> Result<(Want, Vec<Value>), AllocError>
+) -> Result<Wanted, AllocError>
     ensures leads { Settles result stack.new.items (eval form.now p (kept stack.old.items)) }
 {
     let next = enter(alloc, form, p)?;

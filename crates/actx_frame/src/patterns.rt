@@ -44,11 +44,19 @@ fn copy_element(element: &Element) -> Result<Element, AllocError>
     ensures { IfOk result (λ copy. eval_element copy ≡ eval_element element.now) }
 {
     let target = share(&element.target)?;
-    let default = match &element.default {
-        None => None,
-        Some(e) => Some(share(e)?),
-    };
-    Ok(Element { target, default })
+    match &element.default {
+        None => Ok(Element {
+            target,
+            default: None,
+        }),
+        Some(e) => {
+            let e = share(e)?;
+            Ok(Element {
+                target,
+                default: Some(e),
+            })
+        }
+    }
 }
 
 /// Binds a pattern to a value.
@@ -99,6 +107,7 @@ pub fn bind_element(element: Element, p: ScopeId, v: Value) -> Next
 }
 
 /// The keys of these properties, first to last.
+#[tactic(auto, using(crate::proofs::PatternLaws::key_laws))]
 fn keys(alloc: Global, list: &[Property]) -> Result<Vec<Value>, AllocError>
     ensures { IfOk result (λ keys. keys.items ≡ keys_of (map eval_property list.now)) }
 {
@@ -117,10 +126,13 @@ fn next_property(alloc: Global, held: Properties) -> Result<Next, AllocError>
     if held.at >= held.list.len() {
         return match held.rest {
             None => Ok(given(Value::Undefined)),
-            Some(i) => Ok(under(
-                PatternStep::BindingSlot(i, held.place),
-                Control::AskWith(Request::Rest { from: held.value }, keys(alloc, &held.list)?),
-            )),
+            Some(i) => {
+                let keys = keys(alloc, &held.list)?;
+                Ok(under(
+                    PatternStep::BindingSlot(i, held.place),
+                    Control::AskWith(Request::Rest { from: held.value }, keys),
+                ))
+            }
         };
     }
     let request = Request::Get {

@@ -190,7 +190,7 @@ form_rest_parameter i x = simp the_lemmas
 
 pub form_begin : eval (Begin) ≡ begin
 unfolding eval eval_argument eval_caught eval_entry eval_change eval_key eval_suffix eval_pattern eval_operand eval_piece eval_element eval_property
-form_begin  = simp the_lemmas
+form_begin = simp the_lemmas
 
 pub form_logical : (op : Logic) (e : Rc Form Global) (es : Rc (Vec (Rc Form Global) Global) Global) → eval (Logical op e es) ≡ logical op (eval e.value) (forms es.value.items)
 unfolding eval eval_argument eval_caught eval_entry eval_change eval_key eval_suffix eval_pattern eval_operand eval_piece eval_element eval_property

@@ -5,7 +5,10 @@ ghost use Rattle.actx_want.specs.Bodies.{eval};
 ghost use Rattle.actx_frame.specs.Begins.{IsWhile, IsFor, IsChain};
 ghost use Rattle.actx_frame.specs.Stack.{Leads};
 
-use crate::items::{Chain, ChainEnd, ClassStep, Control, Ending, ForLoop, Item, MemberStep, Next, OfLoop, OfStep, StatementStep, Step, WhileLoop};
+use crate::items::{
+    Chain, ChainEnd, ClassStep, Control, Ending, ForLoop, Item, MemberStep, Next, OfLoop, OfStep,
+    StatementStep, Step, WhileLoop,
+};
 use crate::members::{copy_change, copy_key};
 use crate::shared::share;
 use actx_code::{Caught, Change, ClassMember, Declared, Form, Key, Pattern, Suffix};

@@ -5,7 +5,10 @@ ghost use Rattle.actx_frame.specs.Endings.{ending_work, caught_work};
 ghost use Rattle.actx_frame.specs.Ends.{body_end_of};
 ghost use Rattle.actx_frame.specs.Stack.{Leads};
 
-use crate::items::{Control, Ending, Item, LoopStep, Next, StatementStep, Step};
+use crate::items::{
+    Control, Elements, Ending, ForLoop, Item, LoopStep, Next, OfLoop, StatementStep, Step,
+    WhileLoop,
+};
 use crate::loops::{do_turn, of_turn, while_turn};
 use crate::patterns::next_element;
 use crate::shared::share;
@@ -13,6 +16,7 @@ use actx_code::Caught;
 use actx_value::{Request, ScopeId, Value};
 use actx_want::Completion;
 use std::alloc::{AllocError, Global};
+use std::rc::Rc;
 
 /// How a loop goes on after its body: another turn, or this completion.
 #[derive(Clone, Copy)]
@@ -108,59 +112,126 @@ fn caught(clause: &Caught, p: ScopeId, v: Value) -> Result<Next, AllocError>
     }
 }
 
+/// What is done after the body of a `while`.
+#[tactic(auto, using(crate::proofs::EndingLaws::ending_laws))]
+fn while_ended(held: WhileLoop, c: Completion) -> Next
+    ensures leads { Leads (Ok result) (ending_work (Ending.While held) c) }
+{
+    match body_end(c) {
+        BodyEnd::Again => while_turn(held),
+        BodyEnd::Over(c) => done(c),
+    }
+}
+
+/// What is done after the body of a `do`: the test is due.
+#[tactic(auto, using(crate::proofs::EndingLaws::ending_laws))]
+fn do_ended(held: WhileLoop, c: Completion) -> Result<Next, AllocError>
+    ensures leads { Leads result (ending_work (Ending.Do held) c) }
+{
+    match body_end(c) {
+        BodyEnd::Again => {
+            let test = share(&held.test)?;
+            let p = held.place;
+            Ok(under(LoopStep::Repeating(held), Control::Eval(test, p)))
+        }
+        BodyEnd::Over(c) => Ok(done(c)),
+    }
+}
+
+/// What is done after the body of a `for`: the update is due.
+#[tactic(auto, using(crate::proofs::EndingLaws::ending_laws))]
+fn for_ended(held: ForLoop, c: Completion) -> Result<Next, AllocError>
+    ensures leads { Leads result (ending_work (Ending.For held) c) }
+{
+    match body_end(c) {
+        BodyEnd::Again => {
+            let update = share(&held.update)?;
+            let p = held.place;
+            Ok(under(LoopStep::ForDue(held), Control::Eval(update, p)))
+        }
+        BodyEnd::Over(c) => Ok(done(c)),
+    }
+}
+
+/// What is done after the body of a `for` with `let`: a copy of the scope is due, and the update in it.
+#[tactic(auto, using(crate::proofs::EndingLaws::ending_laws))]
+fn let_ended(held: ForLoop, c: Completion) -> Next
+    ensures leads { Leads (Ok result) (ending_work (Ending.Let held) c) }
+{
+    match body_end(c) {
+        BodyEnd::Again => {
+            let scope = held.place;
+            under(
+                LoopStep::Updating(held),
+                Control::Ask(Request::Fork { scope }),
+            )
+        }
+        BodyEnd::Over(c) => done(c),
+    }
+}
+
+/// What is done after the body of a `for-of`: a walk that is left early is closed.
+#[tactic(auto, using(crate::proofs::EndingLaws::ending_laws))]
+fn of_ended(held: OfLoop, walk: Value, c: Completion) -> Next
+    ensures leads { Leads (Ok result) (ending_work (Ending.Of held walk) c) }
+{
+    match body_end(c) {
+        BodyEnd::Again => of_turn(held, walk),
+        BodyEnd::Over(c) => close(walk, c),
+    }
+}
+
+/// What is done after the target of a `for-of`: the body is due in the scope of the turn.
+#[tactic(auto, using(crate::proofs::EndingLaws::ending_laws))]
+fn target_ended(held: OfLoop, p: ScopeId, walk: Value, c: Completion) -> Result<Next, AllocError>
+    ensures leads { Leads result (ending_work (Ending.OfTarget held p walk) c) }
+{
+    match c {
+        Completion::Normal(_) => {
+            let body = share(&held.body)?;
+            Ok(Next::Under(Item::Ending(Ending::Of(held, walk)), Control::Eval(body, p)))
+        }
+        _ => Ok(close(walk, c)),
+    }
+}
+
+/// What is done after an element of an array pattern.
+#[tactic(auto, using(crate::proofs::EndingLaws::ending_laws))]
+fn element_ended(alloc: Global, held: Elements, walk: Value, c: Completion) -> Next
+    ensures leads { Leads (Ok result) (ending_work (Ending.OrClose held walk) c) }
+{
+    match c {
+        Completion::Normal(_) => next_element(alloc, held, walk),
+        _ => close(walk, c),
+    }
+}
+
+/// What is done after a block with a catch clause: a throw alone is caught.
+#[tactic(auto, using(crate::proofs::EndingLaws::ending_laws))]
+fn block_ended(clause: Rc<Caught>, p: ScopeId, c: Completion) -> Result<Next, AllocError>
+    ensures leads { Leads result (ending_work (Ending.Catching clause p) c) }
+{
+    match c {
+        Completion::Throw(v) => caught(&clause, p, v),
+        _ => Ok(done(c)),
+    }
+}
+
 /// What an item does with a completion.
 #[tactic(auto, using(crate::proofs::EndingLaws::ending_laws))]
 pub fn resume_ending(alloc: Global, held: Ending, c: Completion) -> Result<Next, AllocError>
     ensures leads { Leads result (ending_work held c) }
 {
     match held {
-        Ending::While(l) => match body_end(c) {
-            BodyEnd::Again => Ok(while_turn(l)),
-            BodyEnd::Over(c) => Ok(done(c)),
-        },
-        Ending::Do(l) => match body_end(c) {
-            BodyEnd::Again => {
-                let test = share(&l.test)?;
-                let p = l.place;
-                Ok(under(LoopStep::Repeating(l), Control::Eval(test, p)))
-            }
-            BodyEnd::Over(c) => Ok(done(c)),
-        },
-        Ending::For(l) => match body_end(c) {
-            BodyEnd::Again => {
-                let update = share(&l.update)?;
-                let p = l.place;
-                Ok(under(LoopStep::ForDue(l), Control::Eval(update, p)))
-            }
-            BodyEnd::Over(c) => Ok(done(c)),
-        },
-        Ending::Let(l) => match body_end(c) {
-            BodyEnd::Again => {
-                let scope = l.place;
-                Ok(under(LoopStep::Updating(l), Control::Ask(Request::Fork { scope })))
-            }
-            BodyEnd::Over(c) => Ok(done(c)),
-        },
-        Ending::Of(l, walk) => match body_end(c) {
-            BodyEnd::Again => Ok(of_turn(l, walk)),
-            BodyEnd::Over(c) => Ok(close(walk, c)),
-        },
-        Ending::OfTarget(l, p, walk) => match c {
-            Completion::Normal(_) => {
-                let body = share(&l.body)?;
-                Ok(Next::Under(Item::Ending(Ending::Of(l, walk)), Control::Eval(body, p)))
-            }
-            _ => Ok(close(walk, c)),
-        },
-        Ending::OrClose(held, walk) => match c {
-            Completion::Normal(_) => Ok(next_element(alloc, held, walk)),
-            _ => Ok(close(walk, c)),
-        },
+        Ending::While(held) => Ok(while_ended(held, c)),
+        Ending::Do(held) => do_ended(held, c),
+        Ending::For(held) => for_ended(held, c),
+        Ending::Let(held) => Ok(let_ended(held, c)),
+        Ending::Of(held, walk) => Ok(of_ended(held, walk, c)),
+        Ending::OfTarget(held, p, walk) => target_ended(held, p, walk, c),
+        Ending::OrClose(held, walk) => Ok(element_ended(alloc, held, walk, c)),
         Ending::Closed(before) => Ok(closed(before, c)),
-        Ending::Catching(clause, p) => match c {
-            Completion::Throw(v) => caught(&clause, p, v),
-            _ => Ok(done(c)),
-        },
+        Ending::Catching(clause, p) => block_ended(clause, p, c),
         Ending::Finishing(block, p) => Ok(Next::Under(
             Item::Value(Step::Statement(StatementStep::Settling(c))),
             Control::Eval(block, p),

@@ -5,10 +5,13 @@ ghost use Rattle.actx_want.specs.Bodies.{eval};
 ghost use Rattle.actx_frame.specs.Stack.{Leads};
 
 use crate::begin::{
-    enter_block, enter_change, enter_class, enter_delete, enter_if, enter_of, enter_suffixes, enter_super,
-    enter_try, for_loop, while_loop,
+    enter_block, enter_change, enter_class, enter_delete, enter_if, enter_of, enter_suffixes,
+    enter_super, enter_try, for_loop, while_loop,
 };
-use crate::items::{Control, EntryStep, Item, ListEnd, ListStep, LoopStep, Next, OperatorStep, PatternStep, Spot, StatementStep, Step};
+use crate::items::{
+    Control, EntryStep, Item, ListEnd, ListStep, LoopStep, Next, OperatorStep, PatternStep, Spot,
+    StatementStep, Step,
+};
 use crate::lists::begin_list;
 use crate::loops::{do_turn, while_turn};
 use crate::members::copy_change;
@@ -169,10 +172,7 @@ pub fn enter(alloc: Global, form: &Form, p: ScopeId) -> Result<Next, AllocError>
         } => {
             let held = for_loop(test, update, body, p)?;
             let first = share(first)?;
-            Ok(under(
-                Step::Loop(LoopStep::ForDue(held)),
-                Control::Eval(first, p),
-            ))
+            Ok(under(Step::Loop(LoopStep::ForDue(held)), Control::Eval(first, p)))
         }
         Form::ForLet {
             cells,

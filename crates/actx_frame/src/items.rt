@@ -10,6 +10,9 @@ mod pattern;
 mod statement;
 mod walk;
 
+use actx_code::{Element, Form, Key, Pattern};
+use actx_value::{Request, ScopeId, Value};
+use actx_want::Completion;
 pub use ending::Ending;
 pub use list::{EntryStep, List, ListEnd, ListStep};
 pub use member::{Chain, ChainEnd, KeyUse, MemberStep};
@@ -17,12 +20,8 @@ pub use name::{NameStep, Spot};
 pub use operator::OperatorStep;
 pub use pattern::{Elements, PatternStep, Properties};
 pub use statement::{ClassStep, Declarations, Members, StatementStep};
-pub use walk::{ForLoop, LoopStep, OfLoop, OfStep, WhileLoop};
-
-use actx_code::{Element, Form, Key, Pattern};
-use actx_value::{Request, ScopeId, Value};
-use actx_want::Completion;
 use std::rc::Rc;
+pub use walk::{ForLoop, LoopStep, OfLoop, OfStep, WhileLoop};
 
 /// What is done with a value. Any other completion passes.
 #[derive(Drop)]

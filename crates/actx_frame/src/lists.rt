@@ -6,7 +6,9 @@ ghost use Rattle.actx_want.specs.Bodies.{eval_entry};
 ghost use Rattle.actx_frame.specs.Lists.{whole, whole_list, listing, list_work, entry_work};
 ghost use Rattle.actx_frame.specs.Stack.{Leads};
 
-use crate::items::{Control, EntryStep, Item, KeyUse, List, ListEnd, ListStep, MemberStep, NameStep, Next, Step};
+use crate::items::{
+    Control, EntryStep, Item, KeyUse, List, ListEnd, ListStep, MemberStep, NameStep, Next, Step,
+};
 use crate::members::copy_key;
 use crate::shared::{is_mark, share};
 use actx_code::{Argument, Entry};

@@ -4,7 +4,9 @@ ghost use Rattle.std.specs.Prelude.{◌≡◌, Ok};
 ghost use Rattle.actx_frame.specs.Loops.{Moved, loop_work, of_work};
 ghost use Rattle.actx_frame.specs.Stack.{Leads};
 
-use crate::items::{Control, Ending, ForLoop, Item, LoopStep, Next, OfLoop, OfStep, Step, WhileLoop};
+use crate::items::{
+    Control, Ending, ForLoop, Item, LoopStep, Next, OfLoop, OfStep, Step, WhileLoop,
+};
 use crate::shared::{inside, is_mark, share};
 use actx_value::{Request, Value, is_true};
 use actx_want::Completion;
@@ -68,30 +70,105 @@ fn moved(held: ForLoop, v: Value) -> ForLoop
     }
 }
 
-/// What a step of a `while` or a `do` does with a value.
+/// The test of a turn of `while` is due.
+#[tactic(auto, using(crate::proofs::LoopLaws::loop_laws))]
+fn test_while(held: WhileLoop, v: Value) -> Result<Next, AllocError>
+    ensures leads { Leads result (loop_work (LoopStep.WhileTurn held) v) }
+{
+    let test = share(&held.test)?;
+    let p = held.place;
+    Ok(under(LoopStep::WhileTested(held), Control::Eval(test, p)))
+}
+
+/// What is done with the test of a `while`.
+#[tactic(auto, using(crate::proofs::LoopLaws::loop_laws))]
+fn while_tested(held: WhileLoop, v: Value) -> Result<Next, AllocError>
+    ensures leads { Leads result (loop_work (LoopStep.WhileTested held) v) }
+{
+    if !is_true(v) {
+        return Ok(over());
+    }
+    let body = share(&held.body)?;
+    let p = held.place;
+    Ok(Next::Under(Item::Ending(Ending::While(held)), Control::Eval(body, p)))
+}
+
+/// The body of a turn of `do` is due.
+#[tactic(auto, using(crate::proofs::LoopLaws::loop_laws))]
+fn enter_do_body(held: WhileLoop, v: Value) -> Result<Next, AllocError>
+    ensures leads { Leads result (loop_work (LoopStep.DoTurn held) v) }
+{
+    let body = share(&held.body)?;
+    let p = held.place;
+    Ok(Next::Under(Item::Ending(Ending::Do(held)), Control::Eval(body, p)))
+}
+
+/// The test of a turn of `for` is due.
+#[tactic(auto, using(crate::proofs::LoopLaws::loop_laws))]
+fn test_for(held: ForLoop, v: Value) -> Result<Next, AllocError>
+    ensures leads { Leads result (loop_work (LoopStep.ForTurn held) v) }
+{
+    let test = share(&held.test)?;
+    let p = held.place;
+    Ok(under(LoopStep::ForTested(held), Control::Eval(test, p)))
+}
+
+/// What is done with the test of a `for`.
+#[tactic(auto, using(crate::proofs::LoopLaws::loop_laws))]
+fn for_tested(held: ForLoop, v: Value) -> Result<Next, AllocError>
+    ensures leads { Leads result (loop_work (LoopStep.ForTested held) v) }
+{
+    if !is_true(v) {
+        return Ok(over());
+    }
+    let body = share(&held.body)?;
+    let p = held.place;
+    Ok(Next::Under(Item::Ending(Ending::For(held)), Control::Eval(body, p)))
+}
+
+/// The test of a turn of a `for` with `let` is due.
+#[tactic(auto, using(crate::proofs::LoopLaws::loop_laws))]
+fn test_let(held: ForLoop, v: Value) -> Result<Next, AllocError>
+    ensures leads { Leads result (loop_work (LoopStep.LetTurn held) v) }
+{
+    let test = share(&held.test)?;
+    let p = held.place;
+    Ok(under(LoopStep::LetTested(held), Control::Eval(test, p)))
+}
+
+/// What is done with the test of a `for` with `let`.
+#[tactic(auto, using(crate::proofs::LoopLaws::loop_laws))]
+fn let_tested(held: ForLoop, v: Value) -> Result<Next, AllocError>
+    ensures leads { Leads result (loop_work (LoopStep.LetTested held) v) }
+{
+    if !is_true(v) {
+        return Ok(over());
+    }
+    let body = share(&held.body)?;
+    let p = held.place;
+    Ok(Next::Under(Item::Ending(Ending::Let(held)), Control::Eval(body, p)))
+}
+
+/// The update is due, in the copy of the scope that came.
+#[tactic(auto, using(crate::proofs::LoopLaws::loop_laws))]
+fn update_let(held: ForLoop, v: Value) -> Result<Next, AllocError>
+    ensures leads { Leads result (loop_work (LoopStep.Updating held) v) }
+{
+    let held = moved(held, v);
+    let update = share(&held.update)?;
+    let p = held.place;
+    Ok(under(LoopStep::LetUpdated(held), Control::Eval(update, p)))
+}
+
+/// What a step of a loop does with a value.
 #[tactic(auto, using(crate::proofs::LoopLaws::loop_laws))]
 pub fn resume_loop(held: LoopStep, v: Value) -> Result<Next, AllocError>
     ensures leads { Leads result (loop_work held v) }
 {
     match held {
-        LoopStep::WhileTurn(l) => {
-            let test = share(&l.test)?;
-            let p = l.place;
-            Ok(under(LoopStep::WhileTested(l), Control::Eval(test, p)))
-        }
-        LoopStep::WhileTested(l) => {
-            if !is_true(v) {
-                return Ok(over());
-            }
-            let body = share(&l.body)?;
-            let p = l.place;
-            Ok(Next::Under(Item::Ending(Ending::While(l)), Control::Eval(body, p)))
-        }
-        LoopStep::DoTurn(l) => {
-            let body = share(&l.body)?;
-            let p = l.place;
-            Ok(Next::Under(Item::Ending(Ending::Do(l)), Control::Eval(body, p)))
-        }
+        LoopStep::WhileTurn(l) => test_while(l, v),
+        LoopStep::WhileTested(l) => while_tested(l, v),
+        LoopStep::DoTurn(l) => enter_do_body(l, v),
         LoopStep::Repeating(l) => {
             if is_true(v) {
                 Ok(do_turn(l))
@@ -100,19 +177,8 @@ pub fn resume_loop(held: LoopStep, v: Value) -> Result<Next, AllocError>
             }
         }
         LoopStep::ForDue(l) => Ok(for_turn(l)),
-        LoopStep::ForTurn(l) => {
-            let test = share(&l.test)?;
-            let p = l.place;
-            Ok(under(LoopStep::ForTested(l), Control::Eval(test, p)))
-        }
-        LoopStep::ForTested(l) => {
-            if !is_true(v) {
-                return Ok(over());
-            }
-            let body = share(&l.body)?;
-            let p = l.place;
-            Ok(Next::Under(Item::Ending(Ending::For(l)), Control::Eval(body, p)))
-        }
+        LoopStep::ForTurn(l) => test_for(l, v),
+        LoopStep::ForTested(l) => for_tested(l, v),
         LoopStep::LetEntered(first, l) => {
             let l = moved(l, v);
             let p = l.place;
@@ -120,28 +186,15 @@ pub fn resume_loop(held: LoopStep, v: Value) -> Result<Next, AllocError>
         }
         LoopStep::LetDeclared(l) => {
             let scope = l.place;
-            Ok(under(LoopStep::LetStarted(l), Control::Ask(Request::Fork { scope })))
+            Ok(under(
+                LoopStep::LetStarted(l),
+                Control::Ask(Request::Fork { scope }),
+            ))
         }
         LoopStep::LetStarted(l) => Ok(let_turn(moved(l, v))),
-        LoopStep::LetTurn(l) => {
-            let test = share(&l.test)?;
-            let p = l.place;
-            Ok(under(LoopStep::LetTested(l), Control::Eval(test, p)))
-        }
-        LoopStep::LetTested(l) => {
-            if !is_true(v) {
-                return Ok(over());
-            }
-            let body = share(&l.body)?;
-            let p = l.place;
-            Ok(Next::Under(Item::Ending(Ending::Let(l)), Control::Eval(body, p)))
-        }
-        LoopStep::Updating(l) => {
-            let l = moved(l, v);
-            let update = share(&l.update)?;
-            let p = l.place;
-            Ok(under(LoopStep::LetUpdated(l), Control::Eval(update, p)))
-        }
+        LoopStep::LetTurn(l) => test_let(l, v),
+        LoopStep::LetTested(l) => let_tested(l, v),
+        LoopStep::Updating(l) => update_let(l, v),
         LoopStep::LetUpdated(l) => Ok(let_turn(l)),
     }
 }

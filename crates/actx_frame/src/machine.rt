@@ -165,11 +165,7 @@ fn work(alloc: Global, stack: &mut Vec<Item>, control: Control) -> Result<Piece,
 /// without a request, which no computer comes to: between two requests there are no more of them than
 /// parts of the body.
 #[tactic(auto, using(crate::proofs::MachineLaws::run_laws))]
-pub fn run(
-    alloc: Global,
-    stack: &mut Vec<Item>,
-    control: Control,
-) -> Result<Wanted, AllocError>
+pub fn run(alloc: Global, stack: &mut Vec<Item>, control: Control) -> Result<Wanted, AllocError>
     ensures leads { Settles result stack.new.items (control_work control (kept stack.old.items)) }
 {
     let mut control = control;

@@ -6,7 +6,9 @@ ghost use Rattle.actx_want.specs.Bodies.{eval_change, eval_key};
 ghost use Rattle.actx_frame.specs.Members.{chain_ended, following, used, keyed, stop_value as stop_value_of, member_work};
 ghost use Rattle.actx_frame.specs.Stack.{Leads};
 
-use crate::items::{Chain, ChainEnd, Control, EntryStep, Item, KeyUse, List, ListEnd, MemberStep, Next, Spot, Step};
+use crate::items::{
+    Chain, ChainEnd, Control, EntryStep, Item, KeyUse, List, ListEnd, MemberStep, Next, Spot, Step,
+};
 use crate::lists::go_on_list;
 use crate::names::change;
 use crate::shared::{is_nullish, share};
@@ -122,12 +124,7 @@ fn end_chain(end: ChainEnd, p: ScopeId, v: Value) -> Next
 
 /// Goes on with a chain, by its receiver and its value so far.
 #[tactic(auto, using(crate::proofs::MemberLaws::chain_laws))]
-pub fn follow(
-    alloc: Global,
-    chain: Chain,
-    receiver: Value,
-    v: Value,
-) -> Result<Next, AllocError>
+pub fn follow(alloc: Global, chain: Chain, receiver: Value, v: Value) -> Result<Next, AllocError>
     ensures leads { Leads result (following chain receiver v) }
 {
     let mut chain = chain;
@@ -163,11 +160,7 @@ pub fn follow(
 
 /// What a step does with a value.
 #[tactic(auto, using(crate::proofs::MemberLaws::member_laws))]
-pub fn resume_member(
-    alloc: Global,
-    held: MemberStep,
-    v: Value,
-) -> Result<Next, AllocError>
+pub fn resume_member(alloc: Global, held: MemberStep, v: Value) -> Result<Next, AllocError>
     ensures leads { Leads result (member_work held v) }
 {
     match held {
@@ -186,7 +179,11 @@ pub fn resume_member(
             let scope = chain.place;
             Ok(under(
                 MemberStep::SuperThis(key, v, chain),
-                Control::Ask(Request::Load { scope, hops, slot: 0 }),
+                Control::Ask(Request::Load {
+                    scope,
+                    hops,
+                    slot: 0,
+                }),
             ))
         }
     }

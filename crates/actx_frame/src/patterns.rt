@@ -193,10 +193,7 @@ fn next_past(held: Elements) -> Result<Next, AllocError>
     if held.at >= held.list.len() {
         return match held.rest {
             None => Ok(given(Value::Undefined)),
-            Some(i) => Ok(under(
-                PatternStep::BindingSlot(i, p),
-                Control::Ask(Request::Array),
-            )),
+            Some(i) => Ok(under(PatternStep::BindingSlot(i, p), Control::Ask(Request::Array))),
         };
     }
     let element = copy_element(&held.list[held.at])?;
@@ -209,12 +206,7 @@ fn next_past(held: Elements) -> Result<Next, AllocError>
 
 /// What is done with an item of the walk, or the mark.
 #[tactic(auto, using(crate::proofs::ElementLaws::item_laws))]
-fn item_came(
-    alloc: Global,
-    held: Elements,
-    walk: Value,
-    v: Value,
-) -> Result<Next, AllocError>
+fn item_came(alloc: Global, held: Elements, walk: Value, v: Value) -> Result<Next, AllocError>
     ensures leads { Leads result (pattern_work (PatternStep.ItemBound held walk) v) }
 {
     let mut held = held;
@@ -263,11 +255,7 @@ fn rest_came(
 
 /// What a step does with a value.
 #[tactic(auto, using(crate::proofs::PatternSteps::step_laws))]
-pub fn resume_pattern(
-    alloc: Global,
-    held: PatternStep,
-    v: Value,
-) -> Result<Next, AllocError>
+pub fn resume_pattern(alloc: Global, held: PatternStep, v: Value) -> Result<Next, AllocError>
     ensures leads { Leads result (pattern_work held v) }
 {
     match held {

@@ -7,7 +7,9 @@ ghost use Rattle.actx_frame.specs.Work.{forms};
 ghost use Rattle.actx_frame.specs.Statements.{declarations_left, statement_work, members_left, class_work};
 ghost use Rattle.actx_frame.specs.Stack.{Leads};
 
-use crate::items::{ClassStep, Control, Declarations, Item, Members, NameStep, Next, StatementStep, Step};
+use crate::items::{
+    ClassStep, Control, Declarations, Item, Members, NameStep, Next, StatementStep, Step,
+};
 use crate::shared::{inside, share};
 use actx_code::{ClassMember, Form};
 use actx_value::{Request, ScopeId, Value, is_true};
@@ -53,7 +55,10 @@ pub fn next_form(
         return Ok(done(Completion::Normal(v)));
     }
     let e = share(&list[at])?;
-    Ok(under(StatementStep::Sequenced(list, at + 1, p), Control::Eval(e, p)))
+    Ok(under(
+        StatementStep::Sequenced(list, at + 1, p),
+        Control::Eval(e, p),
+    ))
 }
 
 /// Goes on with the functions that a scope declares, and then its form.
@@ -71,7 +76,10 @@ fn next_declaration(held: Declarations) -> Next
         scope: held.place,
     };
     held.at += 1;
-    under(StatementStep::Declaring(declared.slot, held), Control::Ask(request))
+    under(
+        StatementStep::Declaring(declared.slot, held),
+        Control::Ask(request),
+    )
 }
 
 /// What a step does with a value.
@@ -110,7 +118,10 @@ pub fn resume_statement(held: StatementStep, v: Value) -> Result<Next, AllocErro
         StatementStep::Settling(c) => Ok(done(c)),
         StatementStep::CatchEntered(target, block, thrown, p) => {
             let p = inside(p, v);
-            Ok(under(StatementStep::CatchBlock(block, p), Control::Bind(target, p, thrown)))
+            Ok(under(
+                StatementStep::CatchBlock(block, p),
+                Control::Bind(target, p, thrown),
+            ))
         }
         StatementStep::CatchBlock(block, p) => Ok(Next::Just(Control::Eval(block, p))),
     }
@@ -146,7 +157,11 @@ fn next_member(held: Members) -> Next
         return done(Completion::Normal(held.class));
     }
     let member = held.list[held.at];
-    let home = if member.is_static { held.class } else { held.prototype };
+    let home = if member.is_static {
+        held.class
+    } else {
+        held.prototype
+    };
     let request = Request::Method {
         body: member.body,
         scope: held.place,

@@ -59,11 +59,20 @@ fn finally_runs_where_a_generator_is_finished(rt: HostRuntime) -> Result<(), Fai
         };
         assert_eq!(rt; frame.want(), Want::Ask(Request::Begin));
         let go = Answer::Go(Value::Undefined);
-        let yields = Want::Ask(Request::Yield { value: Value::Num(1) });
+        let yields = Want::Ask(Request::Yield {
+            value: Value::Num(1),
+        });
         assert_eq!(rt; frame.next(&code, go)?, yields);
-        let loads = Want::Ask(Request::Load { scope: SCOPE, hops: 1, slot: 0 });
+        let loads = Want::Ask(Request::Load {
+            scope: SCOPE,
+            hops: 1,
+            slot: 0,
+        });
         assert_eq!(rt; frame.next(&code, end)?, loads);
-        let calls = Want::Ask(Request::Call { callee: f, this: Value::Undefined });
+        let calls = Want::Ask(Request::Call {
+            callee: f,
+            this: Value::Undefined,
+        });
         assert_eq!(rt; frame.next(&code, Answer::Go(f))?, calls);
         assert_eq!(rt; frame.args().len(), 0);
         let ends = if raised {
@@ -121,7 +130,10 @@ fn a_spread_makes_the_list_of_a_call(rt: HostRuntime) -> Result<(), Fail> {
         frame.next(&code, Answer::Go(v))?;
     }
     assert_eq!(rt; frame.want(), Want::Ask(Request::Next { walk }));
-    let calls = Want::Ask(Request::Call { callee: f, this: Value::Undefined });
+    let calls = Want::Ask(Request::Call {
+        callee: f,
+        this: Value::Undefined,
+    });
     assert_eq!(rt; frame.next(&code, Answer::Go(Value::Mark))?, calls);
     assert_eq!(rt; frame.args(), [Value::Num(5), Value::Num(9)].as_slice());
     Ok(())

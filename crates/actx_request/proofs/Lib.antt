@@ -1,0 +1,9 @@
+mod Above
+mod ScopeLemmas
+mod Resets
+mod WriteLemmas
+mod WriteOutcomes
+mod FillLemmas
+mod PairLemmas
+mod UnitLemmas
+mod OpenLemmas

@@ -3,7 +3,8 @@
 
 usage: bench/run.py [PROGRAM]      PROGRAM is crates/actx/out/actx if not given
 
-Cells are measured beside a plain list by the program of `crates/cells_speed`, where it is built (`rt run` there).
+Cells are measured beside a plain list by the program of `crates/cells_speed`, and objects by that of
+`crates/objects_speed`, where these are built (`rt run` there).
 
 Each line: what was measured, the two sizes in bytes, the time and the peak of memory at the larger one, and the ratio of
 the times per byte, which is near 1 where time is in proportion to size. Times are the least of five runs.
@@ -96,6 +97,26 @@ def cells(program, count):
           f'ratio to a list {times["cells"] / times["list"]:.2f}')
 
 
+def least(program, *words):
+    """The least time of five runs with these words."""
+    runs = []
+    for _ in range(5):
+        start = time.perf_counter()
+        subprocess.run([program, *map(str, words)], check=True, stdout=subprocess.DEVNULL)
+        runs.append(time.perf_counter() - start)
+    return min(runs)
+
+
+def objects(program):
+    """Three lines: reads of properties of a small and of a large object, elements put into an array, and a Map that is filled,
+    walked, half dropped and walked again."""
+    few, many = (least(program, 'names', 10_000_000, width) for width in (8, 10_000))
+    print(f'properties: 10000000 reads of 8 and of 10000: {few:.3f} and {many:.3f} s, ratio {many / few:.2f}')
+    small, large = (least(program, 'push', count) for count in (1_000_000, 4_000_000))
+    print(f'elements: 4000000 put at the end: {large:.3f} s, ratio per element to 1000000 {large / (4 * small):.2f}')
+    print(f'Map: 1000000 entries put, walked, half of them dropped, walked: {least(program, "map", 1_000_000):.3f} s')
+
+
 def main():
     program = os.path.abspath(sys.argv[1]) if len(sys.argv) > 1 else os.path.join(TOP, 'crates/actx/out/actx')
     if not os.path.exists(program):
@@ -106,6 +127,9 @@ def main():
     beside = os.path.join(TOP, 'crates/cells_speed/out/cells_speed')
     if os.path.exists(beside):
         cells(beside, 10_000_000)
+    beside = os.path.join(TOP, 'crates/objects_speed/out/objects_speed')
+    if os.path.exists(beside):
+        objects(beside)
 
 
 if __name__ == '__main__':

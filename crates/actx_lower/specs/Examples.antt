@@ -107,22 +107,32 @@ plain n = c_key.Plain (text n)
 abbrev pub slot : ℕ → CorePattern
 slot n = c_pattern.Slot n
 
+-- one form alone, as a body has it
+abbrev pub alone : Core → Core
+alone form = forms.Sequence (form ∷ [])
+
+abbrev pub of_items : List Core → CoreBody
+of_items items = record { kind = kinds.File; flow = flow.Plain; name = 0; hidden = false; cells = 0; form = forms.Sequence items }
+
 abbrev pub of_file : Core → CoreBody
-of_file form = record { kind = kinds.File; flow = flow.Plain; name = 0; hidden = false; cells = 0; form = form }
+of_file form = of_items (form ∷ [])
 
 -- what a file becomes whose bundled text is empty
 abbrev pub Becomes : Tree → List CoreBody → List Units → Type 0
-Becomes tree bodies literals = core tree (file []) ≡ record { bodies = bodies ++ of_file (forms.Sequence []) ∷ []; literals = literals; bundled = [] }
+Becomes tree bodies literals = core tree (file []) ≡ record { bodies = bodies ++ of_items [] ∷ []; literals = literals; bundled = [] }
 
--- a file that is one body
+-- a file that is one body, of these forms, or of one
+abbrev pub BecomesForms : List Stmt → List Core → List Units → Type 0
+BecomesForms items made literals = Becomes (file items) (of_items made ∷ []) literals
+
 abbrev pub BecomesForm : List Stmt → Core → List Units → Type 0
-BecomesForm items form literals = Becomes (file items) (of_file form ∷ []) literals
+BecomesForm items form literals = BecomesForms items (form ∷ []) literals
 
 -- ---- names and declarations
 
 -- (nothing)
 abbrev pub Empty : Type 0
-Empty = BecomesForm [] (forms.Sequence []) []
+Empty = BecomesForms [] [] []
 
 -- let a = 1; a;
 abbrev pub NameDeclared : Type 0
@@ -131,8 +141,8 @@ NameDeclared = BecomesForm (s.Let false (with_value a one ∷ []) ∷ s.Expr (e.
 
 -- console; { let a; console; a; }
 abbrev pub NamesInABlock : Type 0
-NamesInABlock = BecomesForm (s.Expr (e.Name console) ∷ s.Block (s.Let false (bare a ∷ []) ∷ s.Expr (e.Name console) ∷ s.Expr (e.Name a) ∷ []) ∷ [])
-    (forms.Sequence (forms.Name 0 1 ∷ forms.Block 1 [] (forms.Sequence (forms.Init 0 undefined ∷ forms.Name 1 1 ∷ forms.Name 0 0 ∷ [])) ∷ [])) []
+NamesInABlock = BecomesForms (s.Expr (e.Name console) ∷ s.Block (s.Let false (bare a ∷ []) ∷ s.Expr (e.Name console) ∷ s.Expr (e.Name a) ∷ []) ∷ [])
+    (forms.Name 0 1 ∷ forms.Block 1 [] (forms.Sequence (forms.Init 0 undefined ∷ forms.Name 1 1 ∷ forms.Name 0 0 ∷ [])) ∷ []) []
 
 -- this;
 abbrev pub ThisOfAFile : Type 0
@@ -154,8 +164,8 @@ PatternDeclared = BecomesForm
 
 -- 'a'; ''; 'k'; 'a';
 abbrev pub TextsOnce : Type 0
-TextsOnce = BecomesForm (s.Expr (e.Text a) ∷ s.Expr (e.Text []) ∷ s.Expr (e.Text k) ∷ s.Expr (e.Text a) ∷ [])
-    (forms.Sequence (forms.Literal (text 1) ∷ forms.Literal (text 0) ∷ forms.Literal (text 2) ∷ forms.Literal (text 1) ∷ [])) (a ∷ k ∷ [])
+TextsOnce = BecomesForms (s.Expr (e.Text a) ∷ s.Expr (e.Text []) ∷ s.Expr (e.Text k) ∷ s.Expr (e.Text a) ∷ [])
+    (forms.Literal (text 1) ∷ forms.Literal (text 0) ∷ forms.Literal (text 2) ∷ forms.Literal (text 1) ∷ []) (a ∷ k ∷ [])
 
 -- `${1}k${1}`;
 abbrev pub TemplateOfTwo : Type 0
@@ -171,12 +181,11 @@ MemberChanged = BecomesForm (s.Expr (e.Assign (e.Left (e.Name console) (suffix.I
 
 -- console.a?.k(1); delete console.a?.k;
 abbrev pub ChainOfSuffixes : Type 0
-ChainOfSuffixes = BecomesForm
+ChainOfSuffixes = BecomesForms
     (s.Expr (e.Left (e.Name console) (suffix.Member false a ∷ suffix.Member true k ∷ suffix.Call false (argument.One one ∷ []) ∷ []))
     ∷ s.Expr (e.Unary unary.Delete (e.Left (e.Name console) (suffix.Member false a ∷ suffix.Member true k ∷ []))) ∷ [])
-    (forms.Sequence
     (forms.Suffixes (forms.Name 0 1) (c_suffix.Member false (plain 1) ∷ c_suffix.Member true (plain 2) ∷ c_suffix.Call false (c_argument.One (number 1) ∷ []) ∷ [])
-    ∷ forms.Delete (forms.Name 0 1) (c_suffix.Member false (plain 1) ∷ []) true (plain 2) ∷ []))
+    ∷ forms.Delete (forms.Name 0 1) (c_suffix.Member false (plain 1) ∷ []) true (plain 2) ∷ [])
     (a ∷ k ∷ [])
 
 -- let a; a &&= 1; a++; (1 || a) - 1;
@@ -222,7 +231,7 @@ IfElse = BecomesForm (s.If one s.Empty (Some (s.While one s.Continue)) ∷ [])
 abbrev pub ArrowNamed : Type 0
 ArrowNamed = Becomes (file (s.Let true (with_value a (e.Arrow false no_params one) ∷ []) ∷ []))
     (of_file (forms.Block 1 [] (forms.Init 0 (forms.Function (id 1))))
-    ∷ record { kind = kinds.Arrow; flow = flow.Plain; name = 1; hidden = false; cells = 0; form = forms.Return (number 1) } ∷ [])
+    ∷ record { kind = kinds.Arrow; flow = flow.Plain; name = 1; hidden = false; cells = 0; form = alone (forms.Return (number 1)) } ∷ [])
     (a ∷ [])
 
 -- a(); function a(b) { let k = b; return this; }, where the body begins 12 tokens after the start
@@ -263,8 +272,8 @@ abbrev pub ObjectOfEntries : Type 0
 ObjectOfEntries = Becomes
     (file (s.Expr (e.Brackets (e.Object (entry.Pair (key.Word a) (e.Arrow false no_params one) ∷ entry.Pair (key.Computed (e.Text k)) (e.Arrow false no_params one) ∷ entry.Shorthand console ∷ []))) ∷ []))
     (of_file (forms.Object (c_entry.Pair (plain 1) (forms.Function (id 1)) ∷ c_entry.Pair (c_key.Computed (forms.Literal (text 2))) (forms.Function (id 2)) ∷ c_entry.Pair (plain 3) (forms.Name 0 1) ∷ []))
-    ∷ record { kind = kinds.Arrow; flow = flow.Plain; name = 1; hidden = false; cells = 0; form = forms.Return (number 1) }
-    ∷ record { kind = kinds.Arrow; flow = flow.Plain; name = 0; hidden = false; cells = 0; form = forms.Return (number 1) } ∷ [])
+    ∷ record { kind = kinds.Arrow; flow = flow.Plain; name = 1; hidden = false; cells = 0; form = alone (forms.Return (number 1)) }
+    ∷ record { kind = kinds.Arrow; flow = flow.Plain; name = 0; hidden = false; cells = 0; form = alone (forms.Return (number 1)) } ∷ [])
     (a ∷ k ∷ console ∷ [])
 
 -- ---- classes
@@ -300,9 +309,9 @@ class_file = record {
 abbrev pub ClassWithMembers : Type 0
 ClassWithMembers = Becomes class_file
     (of_file (forms.Block 1 [] (forms.Init 0 (forms.Class (id 1) (Some (forms.Name 1 1)) (text 1) (record { is_static = true; key = text 3; body = id 3 } ∷ []))))
-    ∷ record { kind = kinds.DerivedClass; flow = flow.Plain; name = 2; hidden = true; cells = 3; form = forms.Function (id 2) }
-    ∷ record { kind = kinds.Arrow; flow = flow.Plain; name = 0; hidden = false; cells = 0; form = forms.Return (forms.SuperCall 1 []) }
-    ∷ record { kind = kinds.Method; flow = flow.Plain; name = 3; hidden = true; cells = 3; form = forms.SuperMember 0 (text 4) (c_suffix.Call false [] ∷ []) } ∷ [])
+    ∷ record { kind = kinds.DerivedClass; flow = flow.Plain; name = 2; hidden = true; cells = 3; form = alone (forms.Function (id 2)) }
+    ∷ record { kind = kinds.Arrow; flow = flow.Plain; name = 0; hidden = false; cells = 0; form = alone (forms.Return (forms.SuperCall 1 [])) }
+    ∷ record { kind = kinds.Method; flow = flow.Plain; name = 3; hidden = true; cells = 3; form = alone (forms.SuperMember 0 (text 4) (c_suffix.Call false [] ∷ [])) } ∷ [])
     (codes "prototype" ∷ a ∷ k ∷ b ∷ [])
 
 -- (class a { }); an expression with a name has a scope for it
@@ -325,7 +334,7 @@ abbrev pub BundleBehind : Type 0
 BundleBehind = core (file (s.Expr (e.Text k) ∷ [])) bundle ≡ record {
   bodies = of_file (forms.Literal (text 1))
       ∷ of_file (forms.Block 2 (record { slot = 0; body = id 2 } ∷ record { slot = 1; body = id 3 } ∷ []) (forms.Sequence []))
-      ∷ record { kind = kinds.Function; flow = flow.Plain; name = 2; hidden = true; cells = 3; form = forms.Return (forms.Literal (text 1)) }
+      ∷ record { kind = kinds.Function; flow = flow.Plain; name = 2; hidden = true; cells = 3; form = alone (forms.Return (forms.Literal (text 1))) }
       ∷ record { kind = kinds.Function; flow = flow.Plain; name = 3; hidden = true; cells = 3; form = forms.Sequence [] } ∷ [];
   literals = k ∷ a ∷ b ∷ [];
   bundled = id 2 ∷ id 3 ∷ [];

@@ -1,5 +1,5 @@
 -- Expressions as core forms, one line for each kind (ECMA-262 §13, §15).
-use Rattle.std.specs.Prelude.{ℕ, ◌-◌, Bool, true, false, ◌&&◌, ℤ, List, [], ◌∷◌, length, map, take, drop, slice_get, Option, Some, None, if◌then◌else◌, unwrap_or}
+use Rattle.std.specs.Prelude.{ℕ, Bool, true, false, ◌&&◌, ℤ, List, [], ◌∷◌, map, Option, Some, None, if◌then◌else◌, unwrap_or}
 use Rattle.std.specs.Option.{option_map}
 use Rattle.std.specs.Fmt.{signed_decimal}
 use Rattle.actx_text.specs.declared.units.Units.{Units}
@@ -125,26 +125,33 @@ abbrev pub super_member : Units → Making (List CoreSuffix) → Making Core
 super_member name ss = of3 forms.SuperMember this_hops (text_value name) ss
 
 abbrev pub before_last : {A : Type 0} → List A → List A
-before_last xs = take (length xs - 1) xs
+before_last [] = []
+before_last (x ∷ []) = []
+before_last (x ∷ y ∷ ys) = x ∷ before_last (y ∷ ys)
 
 abbrev pub last : {A : Type 0} → List A → Option A
-last xs = slice_get xs (length xs - 1)
+last [] = None
+last (x ∷ []) = Some x
+last (x ∷ y ∷ ys) = last (y ∷ ys)
 
 -- a change of a member: what stands before the last suffix, its key, and then the change (§13.15.2, §13.4)
 abbrev pub changed_member : Expression → List Suffixed → Option Suffixed → Making CoreChange → Making Core
 changed_member x ss None c = of2 (λ b _. b) (chained x ss) c
 changed_member x ss (Some s) c = of3 forms.ChangeMember (chained x ss) s.key c
 
--- how many suffixes belong to what a `delete` begins with: a call right after `super.name`, whose receiver is `this`
-abbrev pub calls_super : Bool → List Suffixed → ℕ
-calls_super is_super [] = 0
-calls_super is_super (s ∷ ss) = if is_super && s.is_call then 1 else 0
+-- What a `delete` begins with: a call right after `super.name` stands with it, since `this` is its receiver.
+abbrev pub in_base : Bool → List Suffixed → List Suffixed
+in_base is_super [] = []
+in_base is_super (s ∷ ss) = if is_super && s.is_call then s ∷ [] else []
+
+abbrev pub behind_base : Bool → List Suffixed → List Suffixed
+behind_base is_super [] = []
+behind_base is_super (s ∷ ss) = if is_super && s.is_call then ss else s ∷ ss
 
 -- `delete` of a member (§13.5.1.2)
 abbrev pub deleted_member : Expression → List Suffixed → Option Suffixed → Making Core
 deleted_member x ss None = chained x ss
-deleted_member x ss (Some s) = let n = calls_super x.is_super ss in
-    of3 (λ base before k. forms.Delete base before s.is_optional k) (chained x (take n ss)) (suffix_forms (drop n ss)) s.key
+deleted_member x ss (Some s) = of3 (λ base before k. forms.Delete base before s.is_optional k) (chained x (in_base x.is_super ss)) (suffix_forms (behind_base x.is_super ss)) s.key
 
 abbrev pub left_made : Expression → List Suffixed → Expression
 left_made x ss = record (plain (chained x ss)) { change = λ c. changed_member x (before_last ss) (last ss) c; delete = deleted_member x (before_last ss) (last ss) }
@@ -177,6 +184,29 @@ returned x = of1 (λ y. forms.Return y ∷ []) (form x)
 abbrev pub arguments_or_none : Option (List (Making CoreArgument)) → Making (List CoreArgument)
 arguments_or_none None = just []
 arguments_or_none (Some xs) = all xs
+
+-- ---- keys, members and names
+
+-- a key that is written down
+abbrev pub written : Units → Key
+written text = record { key = of1 key.Plain (text_value text); value = text_value text; word = text }
+
+-- a member whose key is made so
+abbrev pub member_suffix : Bool → Making CoreKey → Suffixed
+member_suffix is_optional k = record { form = of1 (suffix.Member is_optional) k; key = k; is_optional = is_optional; is_call = false }
+
+-- a member that isn't static and is named `constructor` is the constructor
+abbrev pub member_as : Bool → Bool → Method → Member
+member_as is_static true m = record { is_constructor = true; made = constructor_made m }
+member_as is_static false m = record { is_constructor = false; made = λ kind name. member_made is_static m }
+
+abbrev pub names_constructor : Bool → Units → Bool
+names_constructor true word = false
+names_constructor false word = is_word constructor_word (Some word)
+
+-- an expression, as it is under a name
+abbrev pub naming_of : Expression → Named
+naming_of x = x.named
 
 -- ---- a part, with what the parts in it are in their place
 
@@ -267,18 +297,11 @@ module _ (names : Names) (inside : Inside) where
   entry_step (Entry-F.Entry::Pair k x) = of2 entry.Pair k.key (x.named k.word)
   entry_step (Entry-F.Method m) = of2 entry.Method m.key.key (m.made kinds.Method m.key.word)
 
-  abbrev pub written : Units → Key
-  written text = record { key = of1 key.Plain (text_value text); value = text_value text; word = text }
-
   abbrev pub key_step : KeyOf → Key
   key_step (Key-F.Word name) = written name
   key_step (Key-F.Key::Text text) = written text
   key_step (Key-F.Key::Number value) = written (signed_decimal value)
   key_step (Key-F.Computed x) = record { key = of1 key.Computed (form x); value = of1 (λ _. values.Undefined) (form x); word = [] }
-
-  -- a member whose key is made so
-  abbrev pub member_suffix : Bool → Making CoreKey → Suffixed
-  member_suffix is_optional k = record { form = of1 (suffix.Member is_optional) k; key = k; is_optional = is_optional; is_call = false }
 
   abbrev pub suffix_step : SuffixOf → Suffixed
   suffix_step (Suffix-F.Member is_optional name) = member_suffix is_optional (of1 key.Plain (text_value name))
@@ -305,15 +328,6 @@ module _ (names : Names) (inside : Inside) where
   abbrev pub class_step : ClassOf → Class
   class_step c = class_made names c.name (option_map form c.parent) c.members
 
-  -- a member that isn't static and is named `constructor` is the constructor
-  abbrev pub member_as : Bool → Bool → Method → Member
-  member_as is_static true m = record { is_constructor = true; made = constructor_made m }
-  member_as is_static false m = record { is_constructor = false; made = λ kind name. member_made is_static m }
-
-  abbrev pub names_constructor : Bool → Units → Bool
-  names_constructor true word = false
-  names_constructor false word = is_word constructor_word (Some word)
-
   abbrev pub member_step : MemberOf → Member
   member_step m = member_as m.is_static (names_constructor m.is_static m.method.key.word) m.method
 
@@ -321,9 +335,6 @@ module _ (names : Names) (inside : Inside) where
   target_step (Target-F.Target::Name name) = name_target name
   target_step (Target-F.Target::Object props rest) = object_target props rest
   target_step (Target-F.Target::Array elems rest) = array_target elems rest
-
-  abbrev pub naming_of : Expression → Named
-  naming_of x = x.named
 
   abbrev pub prop_step : PropOf → Prop
   prop_step (Prop-F.Prop::Shorthand name default) = shorthand_made name (option_map naming_of default)

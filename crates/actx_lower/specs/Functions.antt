@@ -44,7 +44,7 @@ begin flow.Generator = forms.Begin ∷ []
 
 -- what a body does: its parameters first, and then its statements (§10.2.11)
 abbrev pub body_form : Flow → List Core → List Core → Core
-body_form f params items = as_one (params ++ (begin f ++ items))
+body_form f params items = forms.Sequence (params ++ (begin f ++ items))
 
 -- an arrow: its parameters have a scope without hidden slots (§15.3)
 abbrev pub arrow_body : Names → Flow → Units → Params → Making (List Core) → Making CoreBody
@@ -160,13 +160,17 @@ members_of [] = []
 members_of (constructed body ∷ parts) = members_of parts
 members_of (member m ∷ parts) = m ∷ members_of parts
 
-abbrev pub class_form : Names → Option (Making Core) → List Member → Units → Making Core
-class_form names parent members name = let kind = class_kind parent in
+-- a class of this kind; whether one of its members is its constructor
+abbrev pub class_parts : Names → BodyKind → Option (Making Core) → List Member → Bool → Units → Making Core
+class_parts names kind parent members has name =
     of4 (λ implicit extended prototype parts. forms.Class (constructor_of implicit parts) extended prototype (members_of parts))
-    (implicit_if names (list_any is_constructor members) kind name)
+    (implicit_if names has kind name)
     (maybe parent)
     (text_value (codes "prototype"))
     (all (map (λ (m : Member). m.made kind name) members))
+
+abbrev pub class_form : Names → Option (Making Core) → List Member → Units → Making Core
+class_form names parent members name = class_parts names (class_kind parent) parent members (list_any is_constructor members) name
 
 -- A class: its own name, and what makes it where it is declared, and as an expression under a name that it takes if it has
 -- none.

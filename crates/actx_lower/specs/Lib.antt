@@ -7,4 +7,6 @@ pub mod Expressions
 pub mod Statements
 pub mod Lowering
 pub mod Shapes
+pub mod Laws
+pub mod Works
 pub mod Examples

@@ -15,10 +15,10 @@ use Rattle.actx_code.specs.declared.item.Declared.{Declared}
 use Rattle.actx_scope.specs.declared.slot.Found.{Found}
 use Rattle.actx_scope.specs.Scopes.{Scope}
 use Rattle.actx_scope.specs.Early.{token_count}
-use Rattle.actx_lower.specs.declared.core_form.Core.{Core}
+use Rattle.actx_lower.specs.declared.core_form.Core.TheVariants as forms
 use Rattle.actx_lower.specs.Making.{CoreBody, CoreCode, Numbered, Around, Made, Making, just, of1, numbered}
 use Rattle.actx_lower.specs.Names.{Names, by_scopes, scoped}
-use Rattle.actx_lower.specs.Functions.{Inside, as_one}
+use Rattle.actx_lower.specs.Functions.{Inside}
 use Rattle.actx_lower.specs.Statements.{Forms, Statement, all_slots, in_order, as_block, items_made, statement}
 
 -- ---- bodies
@@ -32,7 +32,7 @@ items_of names count (b ∷ bs) range = if b.from + range.from == count then ite
 -- ---- files
 
 abbrev pub file_body : Scope → Forms → CoreBody
-file_body slots x = record { kind = kinds.File; flow = flow.Plain; name = 0; hidden = false; cells = 0; form = as_one (as_block slots x) }
+file_body slots x = record { kind = kinds.File; flow = flow.Plain; name = 0; hidden = false; cells = 0; form = forms.Sequence (as_block slots x) }
 
 -- the body of a file, with its number and the functions that it declares at its top (§16.1.6)
 abbrev pub file_made : Names → List Statement → Making (ℕ × Forms)

@@ -1,16 +1,16 @@
 -- What a part of a tree becomes, by what is around it and what was numbered before it; and what is numbered on the way:
 -- bodies and literal texts.
 use Rattle.std.specs.Prelude.{ℕ, suc, ◌+◌, Bool, true, false, List, [], ◌∷◌, ◌++◌, length, slice_set, Option, Some, None, if◌then◌else◌}
-use Rattle.std.specs.Option.{option_map}
+use Rattle.std.specs.List.{list_any, position_or_len}
 use Rattle.actx_text.specs.declared.units.Units.{Units}
 use Rattle.actx_text.specs.declared.body_id.BodyId.{BodyId}
 use Rattle.actx_tree.specs.declared.function.Flow.{Flow}
 use Rattle.actx_tree.specs.declared.function.Flow.TheVariants as flow
+use Rattle.actx_value.specs.Texts.{texts_eq}
 use Rattle.actx_value.specs.declared.value.Value.{Value}
 use Rattle.actx_value.specs.declared.value.Value.TheVariants as values
 use Rattle.actx_code.specs.declared.body.BodyKind.{BodyKind}
 use Rattle.actx_code.specs.declared.body.BodyKind.TheVariants as kinds
-use Rattle.actx_scope.specs.Words.{same_units, among}
 use Rattle.actx_scope.specs.Scopes.{Scope}
 use Rattle.actx_scope.specs.declared.slot.Found.{Found}
 use Rattle.actx_lower.specs.declared.core_form.Core.{Core}
@@ -35,11 +35,12 @@ pub record CoreCode : Type 0 where
 
 -- ---- making
 
--- What is numbered so far. `uses` are the meanings of the names that are still to come, for a walk that is given them.
+-- What is numbered so far. `uses` are what names mean: of those that were met, where scopes say it, and of those that are to
+-- come, where it is given.
 pub record Numbered : Type 0 where
   pub bodies : List CoreBody
   pub literals : List Units
-  pub uses : List Found
+  pub uses : List (Option Found)
 
 -- the scopes around a part, from the inside out, and how many scopes out the one with `this` is, if there is one
 pub record Around : Type 0 where
@@ -99,13 +100,12 @@ or_true (Some x) = x
 -- ---- texts
 
 -- the place of a text among these; how many these are, where it isn't among them
-unfoldable pub place_of : Units → List Units → ℕ
-place_of text [] = 0
-place_of text (x ∷ xs) = if same_units text x then 0 else place_of text xs + 1
+abbrev pub place_of : Units → List Units → ℕ
+place_of text xs = position_or_len (texts_eq text) xs
 
 -- with a text, which goes last where it is new
 abbrev pub with_text : Units → List Units → List Units
-with_text text xs = if among text xs then xs else xs ++ text ∷ []
+with_text text xs = if list_any (texts_eq text) xs then xs else xs ++ text ∷ []
 
 -- the number of a text: 0 for the empty one, which is no literal, and one more than its place for a literal
 abbrev pub text_number : Units → Making ℕ

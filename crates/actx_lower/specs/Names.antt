@@ -1,5 +1,5 @@
 -- How names are resolved: by the scopes around them, or by a list of what they mean, in the order in which they are met.
-use Rattle.std.specs.Prelude.{ℕ, ◌+◌, List, [], ◌∷◌, length, Option, Some, None}
+use Rattle.std.specs.Prelude.{ℕ, ◌+◌, List, [], ◌∷◌, ◌++◌, Option, Some, None}
 use Rattle.std.specs.Option.{option_map}
 use Rattle.actx_text.specs.declared.units.Units.{Units}
 use Rattle.actx_scope.specs.Scopes.{Scope, found}
@@ -11,16 +11,19 @@ pub record Names : Type 0 where
   pub inside : Scope → List Scope → List Scope
   pub meaning : Units → Making (Option Found)
 
--- by the scopes (ResolveBinding, ECMA-262 §9.4.2)
+-- by the scopes (ResolveBinding, ECMA-262 §9.4.2); what names mean is noted
 abbrev pub by_scopes : Names
-by_scopes = record { inside = λ slots scopes. slots ∷ scopes; meaning = λ name a s. record { value = found a.scopes name; after = s } }
+by_scopes = record {
+  inside = λ slots scopes. slots ∷ scopes;
+  meaning = λ name a s. let x = found a.scopes name in record { value = x; after = record s { uses = s.uses ++ x ∷ [] } };
+}
 
 -- the next meaning of a list
-abbrev pub next_of : List Found → Option Found
+abbrev pub next_of : List (Option Found) → Option Found
 next_of [] = None
-next_of (x ∷ xs) = Some x
+next_of (x ∷ xs) = x
 
-abbrev pub after_next : List Found → List Found
+abbrev pub after_next : List (Option Found) → List (Option Found)
 after_next [] = []
 after_next (x ∷ xs) = xs
 

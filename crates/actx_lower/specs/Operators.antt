@@ -86,13 +86,17 @@ chain first os = chain_by (first_logic os) first os
 
 -- ---- assignments (§13.15.2)
 
+-- the change that an operator of assignment makes with its right side
+abbrev pub change_with : AssignOp → Core → CoreChange
+change_with assign.Plain x = change.Plainly x
+change_with assign.Add x = change.WithOperator binary.Add x
+change_with assign.Subtract x = change.WithOperator binary.Subtract x
+change_with assign.Multiply x = change.WithOperator binary.Multiply x
+change_with assign.Divide x = change.WithOperator binary.Divide x
+change_with assign.Remainder x = change.WithOperator binary.Remainder x
+change_with assign.And x = change.WithLogic logic.And x
+change_with assign.Or x = change.WithLogic logic.Or x
+change_with assign.Coalesce x = change.WithLogic logic.Coalesce x
+
 abbrev pub assigned : AssignOp → Making Core → Making CoreChange
-assigned assign.Plain x = of1 change.Plainly x
-assigned assign.Add x = of1 (change.WithOperator binary.Add) x
-assigned assign.Subtract x = of1 (change.WithOperator binary.Subtract) x
-assigned assign.Multiply x = of1 (change.WithOperator binary.Multiply) x
-assigned assign.Divide x = of1 (change.WithOperator binary.Divide) x
-assigned assign.Remainder x = of1 (change.WithOperator binary.Remainder) x
-assigned assign.And x = of1 (change.WithLogic logic.And) x
-assigned assign.Or x = of1 (change.WithLogic logic.Or) x
-assigned assign.Coalesce x = of1 (change.WithLogic logic.Coalesce) x
+assigned op x = of1 (change_with op) x

@@ -213,6 +213,17 @@ core_element = fold-Element Core CoreArgument CoreCaught CoreEntry CoreChange Co
 unfoldable pub core_property : Property → CoreProperty
 core_property = fold-Property Core CoreArgument CoreCaught CoreEntry CoreChange CoreKey CoreSuffix CorePattern CoreOperand CorePiece CoreElement CoreProperty form_step argument_step caught_step entry_step change_step key_step suffix_step pattern_step operand_step piece_step element_step property_step
 
+-- ---- parts behind shared references
+
+abbrev pub shared_form : Rc Form Global → Core
+shared_form r = core_form r.value
+
+abbrev pub forms_of : Option (Rc Form Global) → Option Core
+forms_of r = option_map shared_form r
+
+abbrev pub caught_of : Option (Rc Caught Global) → Option CoreCaught
+caught_of r = option_map (λ c. core_caught c.value) r
+
 -- ---- bodies and codes
 
 abbrev pub core_body : Body → CoreBody

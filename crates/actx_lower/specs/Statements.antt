@@ -115,6 +115,12 @@ module _ (names : Names) (inside : Inside) where
   abbrev pub expr_made : Expr → Making Core
   expr_made x = form (expression names inside x)
 
+  abbrev pub or_true_of : Option Expr → Making Core
+  or_true_of x = or_true (option_map expr_made x)
+
+  abbrev pub or_undefined_of : Option Expr → Making Core
+  or_undefined_of x = or_undefined (option_map expr_made x)
+
   abbrev pub elems_made : List Elem → List Binding
   elems_made elems = map (elem_of names inside) elems
 
@@ -141,9 +147,9 @@ module _ (names : Names) (inside : Inside) where
   stmt_step (Stmt-F.While test body) = plain (of2 forms.While (expr_made test) (as_part body))  -- §14.7.3.2
   stmt_step (Stmt-F.Do body test) = plain (of2 forms.DoWhile (as_part body) (expr_made test))  -- §14.7.2.2
   stmt_step (Stmt-F.For first test update body) =
-      plain (for_form names (for_init_slots first) (for_init_form first) (or_true (option_map expr_made test)) (or_undefined (option_map expr_made update)) (as_part body))  -- §14.7.4.2
+      plain (for_form names (for_init_slots first) (for_init_form first) (or_true_of test) (or_undefined_of update) (as_part body))  -- §14.7.4.2
   stmt_step (Stmt-F.ForOf is_const target x body) = plain (of_made is_const (target_of names inside target) (expr_made x) (as_part body))  -- §14.7.5.5
-  stmt_step (Stmt-F.Return x) = plain (of1 forms.Return (or_undefined (option_map expr_made x)))  -- §14.10.1
+  stmt_step (Stmt-F.Return x) = plain (of1 forms.Return (or_undefined_of x))  -- §14.10.1
   stmt_step (Stmt-F.Throw x) = plain (of1 forms.Throw (expr_made x))  -- §14.14.1
   stmt_step Stmt-F.Break = plain (just (forms.Break 0))  -- §14.9.2
   stmt_step Stmt-F.Continue = plain (just (forms.Continue 0))  -- §14.8.2

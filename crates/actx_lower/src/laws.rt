@@ -2,6 +2,7 @@
 //! files of its kind become.
 
 ghost use Rattle.actx_lower.specs.Examples as example;
+ghost use Rattle.actx_lower.specs.Laws.{TreesFollow};
 
 /// Names, declarations and patterns.
 pub fn names_of_files()
@@ -52,4 +53,10 @@ pub fn classes_of_files()
 /// The bundled text comes behind the file, with the literals of both.
 pub fn bundle_of_functions()
     ensures { example.BundleBehind }
+{}
+
+/// A tree whose names are resolved by what they mean, in the order in which they are met, is made as by
+/// the scopes around them.
+pub fn trees_follow()
+    ensures { TreesFollow }
 {}

@@ -4,6 +4,10 @@
 mod core_form;
 mod core_parts;
 mod laws;
+mod leaves;
+mod operators;
+mod word;
+mod work;
 
 pub use core_form::Core;
 pub use core_parts::{
@@ -12,5 +16,5 @@ pub use core_parts::{
 };
 pub use laws::{
     bundle_of_functions, classes_of_files, functions_of_files, names_of_files, operators_of_files,
-    statements_of_files, texts_of_files,
+    statements_of_files, texts_of_files, trees_follow,
 };

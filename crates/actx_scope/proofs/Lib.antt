@@ -5,7 +5,3 @@ pub mod Orders
 pub mod Worked
 pub mod Units
 pub mod Lists
-pub mod Names
-pub mod Adds
-pub mod Insides
-pub mod Patterns

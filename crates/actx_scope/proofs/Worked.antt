@@ -69,7 +69,7 @@ deleted = rw (statement-Expr, expr_part-Unary, expr_part-Name) refl
 
 pub proto : early_errors example.proto_key ≡ record { kind = kind.BadKey; at = 2 } ∷ []
 unfolding errors_from tree_nodes spread nodes_in same_units among found_from last_slot has_bad_key
-proto = rw (statement-Expr, expr_part-Brackets, expr_part-Object, entry_part-Pair, entry_part-Shorthand, key_part-Word, expr_part-Number) refl
+proto = rw (statement-Expr, expr_part-Brackets, expr_part-Object, entry_part-Pair, key_part-Word, expr_part-Number) refl
 
 pub constructors : early_errors example.two_constructors ≡ record { kind = kind.TwoConstructors; at = 2 } ∷ []
 unfolding errors_from tree_nodes spread nodes_in same_units among found_from last_slot has_bad_key

@@ -6,7 +6,4 @@ pub mod Nodes
 pub mod Statements
 pub mod Early
 pub mod Examples
-pub mod Bodies
-pub mod Walks
-pub mod Holds
 pub mod Laws

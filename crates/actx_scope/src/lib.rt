@@ -3,20 +3,11 @@
 //! for the profile of docs/SCOPES.md).
 #![tactic(auto)]
 
-mod bodies;
-mod bound;
 mod conditions;
-mod earlier;
 mod early;
-mod findings;
-mod globals;
 mod laws;
 mod place;
-mod repeats;
-mod scopes;
 mod slot;
-mod table;
-mod walk;
 mod words;
 
 pub use conditions::{has_bad_key, is_constructor_key, is_member};

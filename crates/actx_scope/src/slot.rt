@@ -14,8 +14,8 @@ pub struct Slot {
 /// is a global name, and whether an assignment to it is refused.
 #[derive(Clone, Copy, Debug, PartialEq, Eq)]
 pub struct Found {
-    pub hops: u32,
-    pub slot: u32,
+    pub hops: usize,
+    pub slot: usize,
     pub is_global: bool,
     pub is_fixed: bool,
 }

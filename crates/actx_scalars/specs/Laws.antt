@@ -30,7 +30,8 @@ joined separator (p ∷ q ∷ ps) = p ++ (separator ++ joined separator (q ∷ p
 
 -- pieces that no limit cuts off give the text again
 abbrev pub PiecesJoin : Type 0
-PiecesJoin = (most : ℕ) (text separator : List ℕ) → length text < most → joined separator (pieces_of most text separator) ≡ text
+PiecesJoin = (most : ℕ) (text separator : List ℕ)
+    → length text < most → joined separator (pieces_of most text separator) ≡ text
 
 -- how long new texts are
 abbrev pub LengthsAreTold : Type 0

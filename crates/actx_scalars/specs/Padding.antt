@@ -42,7 +42,8 @@ needed_fill texts len v n =
 -- the length to fill up to, and with what, for a text of this length
 abbrev pub pad_arguments : List (List ℕ) → ℕ → List Value → Option (ℕ × List ℕ)
 pad_arguments texts len args =
-    option_and_then (needed_fill texts len (argument args 1)) (option_map as_length (integer_or texts (pos 0) (argument args 0)))
+    option_and_then (needed_fill texts len (argument args 1))
+    (option_map as_length (integer_or texts (pos 0) (argument args 0)))
 
 -- a text that isn't filled up is handed on
 abbrev pub pad_out : Side → ℕ → List ℕ → List ℕ → OpOut → OpOut

@@ -14,11 +14,15 @@ use Rattle.actx_scalars.specs.Places.{relative}
 abbrev pub slice_of : List ℕ → ℤ → ℤ → List ℕ
 slice_of text start end = slice_range text (relative (length text) start) (relative (length text) end)
 
+-- the end is that of the text where it is `undefined`
+abbrev pub slice_arguments : List (List ℕ) → ℕ → List Value → Option (ℤ × ℤ)
+slice_arguments texts len args =
+    both (integer_or texts (pos 0) (argument args 0)) (integer_or texts (pos len) (argument args 1))
+
 abbrev pub sliced : List (List ℕ) → Value → List Value → OpOut
 sliced texts this args =
     received (receiver_text texts this) (λ text.
-    converted (both (integer_or texts (pos 0) (argument args 0)) (integer_or texts (pos (length text)) (argument args 1))) (λ p.
-    NewText (slice_of text p.0 p.1)))
+    converted (slice_arguments texts (length text) args) (λ p. NewText (slice_of text p.0 p.1)))
 
 -- a method of one integer, which is 0 where it is `undefined`
 abbrev pub of_integer : List (List ℕ) → Value → List Value → (List ℕ → ℤ → OpOut) → OpOut

@@ -25,7 +25,8 @@ place_number (Some i) = pos i
 place_number None = negsuc 0
 
 abbrev pub index_number : List ℕ → List ℕ → ℤ → ℤ
-index_number text search position = place_number (first_place text search (clamped (length text) position))
+index_number text search position =
+    place_number (first_place text search (clamped (length text) position))
 
 -- includes(searchString, position) (§22.1.3.8)
 abbrev pub is_included : List ℕ → List ℕ → ℤ → Bool
@@ -51,14 +52,18 @@ searched texts this args missing go =
     converted (search_arguments texts (missing (length text)) args) (λ p. go text p.0 p.1))
 
 abbrev pub index_value : List (List ℕ) → Value → List Value → OpOut
-index_value texts this args = searched texts this args (λ len. pos 0) (λ text search p. Gives (Num (index_number text search p)))
+index_value texts this args =
+    searched texts this args (λ len. pos 0) (λ text search p. Gives (Num (index_number text search p)))
 
 abbrev pub includes_value : List (List ℕ) → Value → List Value → OpOut
-includes_value texts this args = searched texts this args (λ len. pos 0) (λ text search p. Gives (Truth (is_included text search p)))
+includes_value texts this args =
+    searched texts this args (λ len. pos 0) (λ text search p. Gives (Truth (is_included text search p)))
 
 abbrev pub starts_value : List (List ℕ) → Value → List Value → OpOut
-starts_value texts this args = searched texts this args (λ len. pos 0) (λ text search p. Gives (Truth (starts_there text search p)))
+starts_value texts this args =
+    searched texts this args (λ len. pos 0) (λ text search p. Gives (Truth (starts_there text search p)))
 
 -- here a position that is `undefined` is the end of the text
 abbrev pub ends_value : List (List ℕ) → Value → List Value → OpOut
-ends_value texts this args = searched texts this args (λ len. pos len) (λ text search p. Gives (Truth (ends_there text search p)))
+ends_value texts this args =
+    searched texts this args (λ len. pos len) (λ text search p. Gives (Truth (ends_there text search p)))

@@ -30,7 +30,9 @@ units_apart text = map (λ u. u ∷ []) text
 abbrev pub pieces_from : ℕ → List ℕ → List ℕ → ℕ → List (List ℕ)
 pieces_from zero text separator i = []
 pieces_from (suc most) text separator i =
-    option_map_or (λ j. slice_range text i j ∷ pieces_from most text separator (j + length separator)) (first_place text separator i) (drop i text ∷ [])
+    option_map_or (λ j. slice_range text i j ∷ pieces_from most text separator (j + length separator))
+    (first_place text separator i)
+    (drop i text ∷ [])
 
 -- at most so many pieces of the text; the empty separator stands between any two units
 abbrev pub pieces_of : ℕ → List ℕ → List ℕ → List (List ℕ)
@@ -53,10 +55,13 @@ split_after same text None = OutOfProfile Conversion
 split_after same text (Some p) = split_with same text p.0 p.1
 
 -- split(separator, limit): the limit is converted before the separator
+abbrev pub split_arguments : List (List ℕ) → List Value → Option (ℕ × Option (List ℕ))
+split_arguments texts args = both (limit_of texts (argument args 1)) (separator_of texts (argument args 0))
+
 abbrev pub split_received : Value → Option (List ℕ) → Option (ℕ × Option (List ℕ)) → SplitOut
 split_received same None arguments = Throw (TypeError 8)
 split_received same (Some text) arguments = split_after same text arguments
 
 abbrev pub split_value : List (List ℕ) → Value → List Value → SplitOut
 split_value texts this args =
-    split_received (kept texts this) (receiver_text texts this) (both (limit_of texts (argument args 1)) (separator_of texts (argument args 0)))
+    split_received (kept texts this) (receiver_text texts this) (split_arguments texts args)

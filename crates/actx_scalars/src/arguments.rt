@@ -29,11 +29,7 @@ pub(crate) fn argument(args: &[Value], i: usize) -> Value
 }
 
 /// A value as a number (ToNumber, ECMA-262 §7.1.4), where it is a safe integer.
-pub(crate) fn number(
-    alloc: Global,
-    v: Value,
-    texts: &Texts,
-) -> Result<Option<i64>, AllocError>
+pub(crate) fn number(alloc: Global, v: Value, texts: &Texts) -> Result<Option<i64>, AllocError>
     ensures { IfOk result (λ n. n ≡ number_of_value texts.now.texts v) }
 {
     if let Value::Num(n) = v {

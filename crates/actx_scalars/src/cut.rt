@@ -1,8 +1,7 @@
 //! A text cut into pieces.
 
-ghost use Rattle.std.specs.Prelude.{◌≡◌, ◌<◌, length, IfOk};
+ghost use Rattle.std.specs.Prelude.{◌≡◌, take, IfOk};
 ghost use Rattle.actx_scalars.specs.Splits.{pieces_of, pieces_from, units_apart};
-ghost use Rattle.std.specs.Prelude.{take};
 
 use crate::search::first_place;
 use crate::split_out::Pieces;

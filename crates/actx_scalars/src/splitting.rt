@@ -1,9 +1,7 @@
 //! `split`.
 
 ghost use Rattle.std.specs.Prelude.{◌≡◌, IfOk};
-ghost use Rattle.std.specs.Option.{option_map};
-ghost use Rattle.actx_scalars.specs.Splits.{as_uint32, limit_of, separator_of, split_with, split_value};
-ghost use Rattle.actx_scalars.specs.Arguments.{argument, both};
+ghost use Rattle.actx_scalars.specs.Splits.{as_uint32, limit_of, separator_of, split_arguments, split_with, split_value};
 
 use crate::arguments::{argument, kept, number, receiver, text};
 use crate::cut::pieces_of;
@@ -41,11 +39,7 @@ fn limit_of(alloc: Global, v: Value, texts: &Texts) -> Result<Option<u32>, Alloc
 }
 
 /// The separator as a text; there is none where it is `undefined`.
-fn separator_of(
-    alloc: Global,
-    v: Value,
-    texts: &Texts,
-) -> Result<Option<Option<Units>>, AllocError>
+fn separator_of(alloc: Global, v: Value, texts: &Texts) -> Result<Option<Option<Units>>, AllocError>
     ensures { IfOk result (λ separator. separator ≡ separator_of texts.now.texts v) }
 {
     match v {
@@ -63,7 +57,7 @@ fn split_arguments(
     args: &[Value],
     texts: &Texts,
 ) -> Result<Option<(u32, Option<Units>)>, AllocError>
-    ensures { IfOk result (λ found. found ≡ both (limit_of texts.now.texts (argument args.now 1)) (separator_of texts.now.texts (argument args.now 0))) }
+    ensures { IfOk result (λ found. found ≡ split_arguments texts.now.texts args.now) }
 {
     let Some(limit) = limit_of(alloc, argument(args, 1), texts)? else {
         return Ok(None);

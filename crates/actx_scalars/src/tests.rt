@@ -95,23 +95,52 @@ fn operands(alloc: Global, words: &str, texts: &mut Texts) -> Result<Vec<Value>,
     Ok(values)
 }
 
+/// Whether this is the value that was wanted.
+fn is_value(v: Value, wanted: &str) -> bool {
+    match v {
+        Value::Num(n) => wanted.parse::<i64>() == Ok(n),
+        Value::Bool(true) => wanted == "true",
+        Value::Bool(false) => wanted == "false",
+        Value::Text(_) => wanted == "same",
+        _ => false,
+    }
+}
+
+/// Whether this is the text that was wanted.
+fn is_text(alloc: Global, text: &Units, wanted: &str) -> Result<bool, Fail> {
+    if wanted == "!full" {
+        return Ok(as_units(text).len() == MOST);
+    }
+    Ok(wanted.starts_with('\'') && same(text, &spelled(alloc, wanted)?))
+}
+
+/// The word for an error.
+fn error_word(e: ErrorKind) -> &'static str {
+    match e {
+        ErrorKind::TypeError(8) => "!type",
+        ErrorKind::RangeError(0) => "!range",
+        _ => "another error",
+    }
+}
+
+/// The word for a reason.
+fn reason_word(r: Reason) -> &'static str {
+    match r {
+        Reason::Number => "!number",
+        Reason::Conversion => "!conversion",
+        _ => "another reason",
+    }
+}
+
 /// Whether this is what was wanted.
 fn is_wanted(alloc: Global, out: &Bounded, wanted: &str) -> Result<bool, Fail> {
-    Ok(match out {
-        Bounded::Out(OpOut::Value(Value::Num(n))) => wanted.parse::<i64>() == Ok(*n),
-        Bounded::Out(OpOut::Value(Value::Bool(b))) => wanted == if *b { "true" } else { "false" },
-        Bounded::Out(OpOut::Value(Value::Text(_))) => wanted == "same",
-        Bounded::Out(OpOut::NewText(text)) if wanted == "!full" => as_units(text).len() == MOST,
-        Bounded::Out(OpOut::NewText(text)) => {
-            wanted.starts_with('\'') && same(text, &spelled(alloc, wanted)?)
-        }
-        Bounded::Out(OpOut::Throw(ErrorKind::TypeError(8))) => wanted == "!type",
-        Bounded::Out(OpOut::Throw(ErrorKind::RangeError(0))) => wanted == "!range",
-        Bounded::Out(OpOut::OutOfProfile(Reason::Number)) => wanted == "!number",
-        Bounded::Out(OpOut::OutOfProfile(Reason::Conversion)) => wanted == "!conversion",
-        Bounded::TooLong => wanted == "!long",
-        _ => false,
-    })
+    match out {
+        Bounded::TooLong => Ok(wanted == "!long"),
+        Bounded::Out(OpOut::Value(v)) => Ok(is_value(*v, wanted)),
+        Bounded::Out(OpOut::NewText(text)) => is_text(alloc, text, wanted),
+        Bounded::Out(OpOut::Throw(e)) => Ok(wanted == error_word(*e)),
+        Bounded::Out(OpOut::OutOfProfile(r)) => Ok(wanted == reason_word(*r)),
+    }
 }
 
 /// The name of the first line of the table that gives something else, and how many lines there are.
@@ -164,24 +193,26 @@ fn numbers(rt: HostRuntime) -> Result<(), Fail> {
     Ok(())
 }
 
+/// Whether these are the pieces that were wanted.
+fn are_pieces(alloc: Global, pieces: &[Units], wanted: &str) -> Result<bool, Fail> {
+    let mut words = wanted.split_whitespace();
+    for piece in pieces {
+        let word = words.next().ok_or("a piece too many")?;
+        if !same(piece, &spelled(alloc, word)?) {
+            return Ok(false);
+        }
+    }
+    Ok(words.next().is_none())
+}
+
 /// Whether `split` gave these elements, or this word.
 fn is_split(alloc: Global, out: &SplitOut, wanted: &str) -> Result<bool, Fail> {
-    Ok(match out {
-        SplitOut::Whole(Value::Text(_)) => wanted == "whole",
-        SplitOut::Throw(ErrorKind::TypeError(8)) => wanted == "!type",
-        SplitOut::OutOfProfile(Reason::Conversion) => wanted == "!conversion",
-        SplitOut::Pieces(pieces) => {
-            let mut words = wanted.split_whitespace();
-            for piece in pieces.as_slice() {
-                let word = words.next().ok_or("a piece too many")?;
-                if !same(piece, &spelled(alloc, word)?) {
-                    return Ok(false);
-                }
-            }
-            words.next().is_none()
-        }
-        _ => false,
-    })
+    match out {
+        SplitOut::Whole(v) => Ok(matches!(v, Value::Text(_)) && wanted == "whole"),
+        SplitOut::Pieces(pieces) => are_pieces(alloc, pieces.as_slice(), wanted),
+        SplitOut::Throw(e) => Ok(wanted == error_word(*e)),
+        SplitOut::OutOfProfile(r) => Ok(wanted == reason_word(*r)),
+    }
 }
 
 #[test]

@@ -19,7 +19,7 @@ returns-then-is_empty c =
 pub returns-in_ok-push_copies-in-Some : goal.returns-in_ok-push_copies-in-Some
 returns-in_ok-push_copies-in-Some c =
     let made : c.from_units-in-Some.result ≡ repeat c.args.n c.args.text.now =
-        c.from_units-in-Some.ensures ∙ c.in_ok-push_copies-in-Some.ensures ∙ ap (λ us. us ++ repeat c.args.n c.args.text.now) c.in_ok-units-in-Some.ensures.items in
+    c.from_units-in-Some.ensures ∙ c.in_ok-push_copies-in-Some.ensures ∙ ap (λ us. us ++ repeat c.args.n c.args.text.now) c.in_ok-units-in-Some.ensures.items in
     let long : length (repeat c.args.n c.args.text.now) ≡ c.args.n * length c.args.text.now = length-repeat c.args.n c.args.text.now in
     ap (λ text. Out (NewText text)) made ∙ fits (repeat c.args.n c.args.text.now) c.args.most (omega (arith, c.in-Some.ensures.1))
 

@@ -80,7 +80,7 @@ use Rattle.actx_frame.specs.declared.items.walk.OfLoop.{OfLoop}
 use Rattle.actx_frame.specs.declared.items.walk.LoopStep.TheVariants as loops
 use Rattle.actx_frame.specs.declared.items.walk.OfStep.TheVariants as ofs
 use Rattle.actx_frame.specs.declared.items.ending.Ending.TheVariants as endings
-use Rattle.actx_frame.specs.Work.{form_in, clause_in}
+use Rattle.actx_frame.specs.Work.{form_in}
 use Rattle.actx_frame.specs.Names.{access}
 use Rattle.actx_frame.specs.Operators.{operator_work}
 use Rattle.actx_frame.specs.Members.{chain_done, stop_value, following, member_work}
@@ -89,7 +89,7 @@ use Rattle.actx_frame.specs.Patterns.{pattern_work}
 use Rattle.actx_frame.specs.Statements.{statement_work, class_work}
 use Rattle.actx_frame.specs.Loops.{while_again, do_again, for_again, loop_work, of_work}
 use Rattle.actx_frame.specs.Endings.{ending_work}
-use Rattle.actx_frame.specs.Begins.{IsChain, IsWhile, IsFor}
+use Rattle.actx_frame.specs.Begins.{IsChain, IsWhile, IsFor, clause_in}
 use Rattle.actx_frame.proofs.Leading.{leads_error, leads_by}
 use Rattle.actx_frame.proofs.LoopLaws.{while_turns_law, do_turns_law}
 use Rattle.actx_want.specs.Run.{Run}

@@ -48,7 +48,7 @@ use Rattle.actx_frame.specs.declared.items.ending.Ending.TheVariants as endings
 use Rattle.actx_frame.specs.Loops.{Moved, while_turns, do_turns, for_turns, let_turns, of_turns, while_again, do_again, for_again, let_again, of_again, for_update, let_update, loop_work, of_work}
 use Rattle.actx_frame.specs.Endings.{ending_work}
 use Rattle.actx_frame.proofs.Leading.{leads_error, leads_by}
-use Rattle.std.specs.Prelude.{◌==◌, ◌-◌}
+use Rattle.std.specs.Prelude.{◌-◌}
 use Rattle.actx_code.specs.declared.item.Caught.{Caught, Unbound, Bound}
 use Rattle.actx_want.specs.Run.{Run, Next'}
 use Rattle.actx_want.specs.Functions.{Binding}
@@ -74,21 +74,13 @@ ended_by : BodyEnd → (Completion → Run) → Run → Run
 ended_by Again over next = next
 ended_by (Over d) over next = over d
 
-break_end : (n : ℕ) (next : Run) (k : Next') → body_ended next k (Break n) ≡ ended_by (body_end_of (Break n)) k next
-unfolding ended_by
-break_end zero next k = refl
-break_end (suc n) next k = let e : suc n - 1 ≡ n = omega arith in ap (λ m. k (Break m)) (sym e)
-
-continue_end : (n : ℕ) (next : Run) (k : Next') → body_ended next k (Continue n) ≡ ended_by (body_end_of (Continue n)) k next
-unfolding ended_by
-continue_end zero next k = refl
-continue_end (suc n) next k = let e : suc n - 1 ≡ n = omega arith in ap (λ m. k (Continue m)) (sym e)
-
 body_by : (c : Completion) (next : Run) (k : Next') → body_ended next k c ≡ ended_by (body_end_of c) k next
 unfolding ended_by
 body_by (Normal v) next k = refl
-body_by (Break n) next k = break_end n next k
-body_by (Continue n) next k = continue_end n next k
+body_by (Break zero) next k = refl
+body_by (Break (suc n)) next k = refl
+body_by (Continue zero) next k = refl
+body_by (Continue (suc n)) next k = refl
 body_by (Return v) next k = refl
 body_by (Throw v) next k = refl
 
@@ -104,21 +96,13 @@ over_by c d next k h = body_by c next k ∙ ap (λ b. ended_by b k next) h
 close_after : Value → Next' → Completion → Run
 close_after walk k d = ask (requests.Close walk) (closed d k)
 
-item_break : (walk : Value) (n : ℕ) (next : Run) (k : Next') → item_ended walk next k (Break n) ≡ ended_by (body_end_of (Break n)) (close_after walk k) next
-unfolding ended_by close_after
-item_break walk zero next k = refl
-item_break walk (suc n) next k = let e : suc n - 1 ≡ n = omega arith in ap (λ m. close_after walk k (Break m)) (sym e)
-
-item_continue : (walk : Value) (n : ℕ) (next : Run) (k : Next') → item_ended walk next k (Continue n) ≡ ended_by (body_end_of (Continue n)) (close_after walk k) next
-unfolding ended_by close_after
-item_continue walk zero next k = refl
-item_continue walk (suc n) next k = let e : suc n - 1 ≡ n = omega arith in ap (λ m. close_after walk k (Continue m)) (sym e)
-
 item_by : (walk : Value) (c : Completion) (next : Run) (k : Next') → item_ended walk next k c ≡ ended_by (body_end_of c) (close_after walk k) next
 unfolding ended_by close_after
 item_by walk (Normal v) next k = refl
-item_by walk (Break n) next k = item_break walk n next k
-item_by walk (Continue n) next k = item_continue walk n next k
+item_by walk (Break zero) next k = refl
+item_by walk (Break (suc n)) next k = refl
+item_by walk (Continue zero) next k = refl
+item_by walk (Continue (suc n)) next k = refl
 item_by walk (Return v) next k = refl
 item_by walk (Throw v) next k = refl
 
@@ -129,6 +113,24 @@ item_again walk c next k h = item_by walk c next k ∙ ap (λ b. ended_by b (clo
 item_over : (walk : Value) (c d : Completion) (next : Run) (k : Next') → body_end_of c ≡ Over d → item_ended walk next k c ≡ ask (requests.Close walk) (closed d k)
 unfolding ended_by close_after
 item_over walk c d next k h = item_by walk c next k ∙ ap (λ b. ended_by b (close_after walk k) next) h
+
+pub break_own : (n : ℕ) → n ≡ 0 → Over (Normal values.Undefined) ≡ body_end_of (Break n)
+break_own zero h = refl
+break_own (suc n) h = absurd (omega arith)
+
+pub break_outer : (n : ℕ) → (n ≡ 0 → ⊥) → Over (Break (n - 1)) ≡ body_end_of (Break n)
+break_outer zero h = absurd (h refl)
+break_outer (suc n) h = let e : suc n - 1 ≡ n = omega arith in ap (λ m. Over (Break m)) e
+
+pub continue_own : (n : ℕ) → n ≡ 0 → Again ≡ body_end_of (Continue n)
+continue_own zero h = refl
+continue_own (suc n) h = absurd (omega arith)
+
+pub continue_outer : (n : ℕ) → (n ≡ 0 → ⊥) → Over (Continue (n - 1)) ≡ body_end_of (Continue n)
+continue_outer zero h = absurd (h refl)
+continue_outer (suc n) h = let e : suc n - 1 ≡ n = omega arith in ap (λ m. Over (Continue m)) e
+
+pub ruleset body_end_laws = (break_own, break_outer, continue_own, continue_outer)
 
 pub while_again_law : (l : WhileLoop) (c : Completion) → body_end_of c ≡ Again → Leads (Ok (nexts.Under (items.Value (steps.Loop (loops.WhileTurn l))) (controls.Ask requests.Tick))) (ending_work (endings.While l) c)
 unfolding Leads next_work control_work act step_work ending_work

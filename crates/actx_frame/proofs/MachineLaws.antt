@@ -62,8 +62,8 @@ use Rattle.actx_frame.specs.Patterns.{pattern_work}
 use Rattle.actx_frame.specs.Statements.{statement_work, class_work}
 use Rattle.actx_frame.specs.Loops.{loop_work, of_work}
 use Rattle.actx_frame.specs.Endings.{ending_work}
-use Rattle.actx_frame.specs.Stack.{item_work, stacked, kept, Reaches}
-use Rattle.actx_frame.specs.Machine.{ended_of, rest_of, piece_run, Works, Settles}
+use Rattle.actx_frame.specs.Stack.{stacked, kept, Reaches}
+use Rattle.actx_frame.specs.Machine.{completed, ended_of, rest_of, piece_run, Works, Settles}
 use Rattle.actx_frame.proofs.Leading.{leads_error}
 
 pub step_name : (s : NameStep) (v : Value) → step_work (steps.Name s) v ≡ name_work s v
@@ -108,20 +108,20 @@ step_of s v = refl
 
 pub ruleset step_laws = (step_name, step_operator, step_member, step_list, step_entry, step_pattern, step_statement, step_class, step_loop, step_of, leads_error)
 
-pub item_value : (s : Step) (v : Value) → item_work (items.Value s) (Normal v) ≡ step_work s v
-unfolding item_work act
+pub item_value : (s : Step) (v : Value) → completed (items.Value s) (Normal v) ≡ step_work s v
+unfolding completed act
 item_value s v = refl
 
-pub item_passes : (s : Step) (c : Completion) → ((v : Value) → c ≡ Normal v → ⊥) → Leads (Ok (nexts.Just (controls.Done c))) (item_work (items.Value s) c)
-unfolding Leads next_work control_work act step_work item_work
+pub item_passes : (s : Step) (c : Completion) → ((v : Value) → c ≡ Normal v → ⊥) → Leads (Ok (nexts.Just (controls.Done c))) (completed (items.Value s) c)
+unfolding Leads next_work control_work act step_work completed
 item_passes s (Normal v) h = absurd (h v refl)
 item_passes s (Break n) h = refl
 item_passes s (Continue n) h = refl
 item_passes s (Return v) h = refl
 item_passes s (Throw v) h = refl
 
-pub item_ending : (e : Ending) (c : Completion) → item_work (items.Ending e) c ≡ ending_work e c
-unfolding item_work act
+pub item_ending : (e : Ending) (c : Completion) → completed (items.Ending e) c ≡ ending_work e c
+unfolding completed act
 item_ending e c = refl
 
 pub ruleset item_laws = (item_value, item_passes, item_ending, leads_error)
@@ -175,8 +175,8 @@ pub works_ended : (c : Completion) (w : Want) (list : Vec Value Global) (s t : L
 unfolding Works piece_run kept stacked
 works_ended c w list s t h e = ap (λ x. rest_of x list.items (kept t)) e ∙ ended_is c list.items (kept t) ∙ ap (λ xs. kept xs c) (sym h)
 
-pub works_popped : (i : Item) (c : Completion) (n : Next) (r : Result Piece AllocError) (is js s : List Item) → is ≡ js ++ i ∷ [] → Leads (Ok n) (item_work i c) → Works r s (next_work n (kept js)) → Works r s (kept is c)
-unfolding Leads item_work
+pub works_popped : (i : Item) (c : Completion) (n : Next) (r : Result Piece AllocError) (is js s : List Item) → is ≡ js ++ i ∷ [] → Leads (Ok n) (completed i c) → Works r s (next_work n (kept js)) → Works r s (kept is c)
+unfolding Leads completed
 works_popped i c n r is js s h l w = subst (Works r s) (ap (λ (f : Work). f (kept js)) l ∙ sym (ap (λ (f : Next'). f c) (ap kept h ∙ kept_push js i))) w
 
 pub ruleset done_laws = (works_error, leads_error, works_ended, works_popped)

@@ -1,10 +1,13 @@
 -- What the parts of a form are kept as.
-use Rattle.std.specs.Prelude.{◌≡◌}
+use Rattle.std.specs.Prelude.{◌≡◌, Option, Some, None}
 use Rattle.std.specs.declared.rc.Rc.{Rc}
 use Rattle.std.specs.declared.alloc.Global.{Global}
 use Rattle.std.specs.declared.vec.Vec.{Vec}
 use Rattle.actx_code.specs.declared.form.Form.{Form}
+use Rattle.actx_code.specs.declared.item.Caught.{Caught}
 use Rattle.actx_code.specs.declared.member.Suffix.{Suffix}
+use Rattle.actx_want.specs.Functions.{Binding}
+use Rattle.actx_want.specs.Bodies.{eval_caught}
 use Rattle.actx_value.specs.declared.ids.ScopeId.{ScopeId}
 use Rattle.actx_frame.specs.declared.items.member.Chain.{Chain}
 use Rattle.actx_frame.specs.declared.items.member.ChainEnd.{ChainEnd}
@@ -27,3 +30,8 @@ pub record IsFor (l : ForLoop) (test update body : Rc Form Global) (p : ScopeId)
   pub update : l.update.value ≡ update.value
   pub body : l.body.value ≡ body.value
   pub place : l.place ≡ p
+
+-- a catch clause where there is one
+abbrev pub clause_in : Option (Rc Caught Global) → Option Binding
+clause_in None = None
+clause_in (Some c) = Some (eval_caught c.value)

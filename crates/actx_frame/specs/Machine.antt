@@ -14,7 +14,7 @@ use Rattle.actx_frame.specs.declared.machine.Wanted.{Wanted}
 use Rattle.actx_frame.specs.declared.machine.Piece.{Piece}
 use Rattle.actx_frame.specs.declared.machine.Piece.TheVariants as pieces
 use Rattle.actx_frame.specs.Work.{Work}
-use Rattle.actx_frame.specs.Stack.{kept, control_work}
+use Rattle.actx_frame.specs.Stack.{act, kept, control_work}
 
 -- what a body wants where nothing is left to do with a completion
 abbrev pub ended_of : Completion → Want
@@ -23,6 +23,10 @@ ended_of (Break n) = wants.Return values.Undefined
 ended_of (Continue n) = wants.Return values.Undefined
 ended_of (Return v) = wants.Return v
 ended_of (Throw v) = wants.Throw v
+
+-- what an item does with a completion, by what is done next
+unfoldable pub completed : Item → Completion → Work
+completed i c = λ k. act i k c
 
 -- what is wanted after further answers, by what is wanted now and what is kept
 unfoldable pub rest_of : Want → List Value → Next' → Run

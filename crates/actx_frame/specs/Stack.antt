@@ -72,7 +72,7 @@ Leads (Ok n) w = next_work n ≡ w
 Leads (Err e) w = Unit {0}
 
 -- what an item does with a completion, by what is done next
-unfoldable pub item_work : Item → Completion → Work
+abbrev pub item_work : Item → Completion → Work
 item_work i c = λ k. act i k c
 
 -- the same, with what is kept on the stack

@@ -3,10 +3,8 @@ use Rattle.std.specs.Prelude.{List, map, Option, Some, None}
 use Rattle.std.specs.declared.rc.Rc.{Rc}
 use Rattle.std.specs.declared.alloc.Global.{Global}
 use Rattle.actx_code.specs.declared.form.Form.{Form}
-use Rattle.actx_code.specs.declared.item.Caught.{Caught}
 use Rattle.actx_want.specs.Run.{Run, Next', Meaning}
-use Rattle.actx_want.specs.Functions.{Binding}
-use Rattle.actx_want.specs.Bodies.{eval, eval_caught}
+use Rattle.actx_want.specs.Bodies.{eval}
 
 abbrev pub Work : Type 0
 Work = Next' → Run
@@ -19,8 +17,3 @@ forms es = map (λ e. eval e.value) es
 abbrev pub form_in : Option (Rc Form Global) → Option Meaning
 form_in None = None
 form_in (Some e) = Some (eval e.value)
-
--- a catch clause where there is one
-abbrev pub clause_in : Option (Rc Caught Global) → Option Binding
-clause_in None = None
-clause_in (Some c) = Some (eval_caught c.value)

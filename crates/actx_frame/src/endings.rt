@@ -26,6 +26,7 @@ pub enum BodyEnd {
 }
 
 /// What the end of a body means for its own loop (LoopContinues, ECMA-262 §14.7.1.1).
+#[tactic(auto, using(crate::proofs::EndingLaws::body_end_laws))]
 fn body_end(c: Completion) -> BodyEnd
     ensures { result ≡ body_end_of c }
 {

@@ -3,8 +3,8 @@
 ghost use Rattle.std.specs.Prelude.{◌≡◌, [], Ok};
 ghost use Rattle.actx_want.specs.Run.{completion as completion_of};
 ghost use Rattle.actx_want.specs.Bodies.{eval};
-ghost use Rattle.actx_frame.specs.Stack.{step_work, item_work, kept, control_work, next_work, Leads, Reaches};
-ghost use Rattle.actx_frame.specs.Machine.{Works, Settles, ended_of};
+ghost use Rattle.actx_frame.specs.Stack.{step_work, kept, control_work, next_work, Leads, Reaches};
+ghost use Rattle.actx_frame.specs.Machine.{Works, Settles, completed, ended_of};
 
 use crate::endings::resume_ending;
 use crate::enter::enter;
@@ -51,7 +51,7 @@ fn resume_step(alloc: Global, step: Step, v: Value) -> Result<Next, AllocError>
 /// What an item does with a completion.
 #[tactic(auto, using(crate::proofs::MachineLaws::item_laws))]
 fn resume(alloc: Global, item: Item, c: Completion) -> Result<Next, AllocError>
-    ensures leads { Leads result (item_work item c) }
+    ensures leads { Leads result (completed item c) }
 {
     match item {
         Item::Value(step) => match c {

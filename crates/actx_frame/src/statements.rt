@@ -2,7 +2,7 @@
 
 ghost use Rattle.std.specs.Prelude.{◌≡◌, IfOk, drop, Ok};
 ghost use Rattle.actx_want.specs.Statements.{sequenced};
-ghost use Rattle.actx_want.specs.Classes.{stands_on_prototype as stands_on_prototype_of};
+ghost use Rattle.actx_want.specs.Classes.{home_of, stands_on_prototype as stands_on_prototype_of};
 ghost use Rattle.actx_frame.specs.Work.{forms};
 ghost use Rattle.actx_frame.specs.Statements.{declarations_left, statement_work, members_left, class_work};
 ghost use Rattle.actx_frame.specs.Stack.{Leads};
@@ -136,6 +136,7 @@ fn under_class(step: ClassStep, control: Control) -> Next
 }
 
 /// Whether a member isn't static.
+#[tactic(auto, using(crate::proofs::ClassLaws::static_laws))]
 fn stands_on_prototype(members: &[ClassMember]) -> bool
     ensures { result ≡ stands_on_prototype_of members.now }
 {
@@ -145,6 +146,13 @@ fn stands_on_prototype(members: &[ClassMember]) -> bool
         }
     }
     false
+}
+
+/// A static member stands on the class, any other on its prototype object.
+fn home(member: ClassMember, class: Value, prototype: Value) -> Value
+    ensures { result ≡ home_of member class prototype }
+{
+    if member.is_static { class } else { prototype }
 }
 
 /// Goes on with the members of a class.
@@ -157,11 +165,7 @@ fn next_member(held: Members) -> Next
         return done(Completion::Normal(held.class));
     }
     let member = held.list[held.at];
-    let home = if member.is_static {
-        held.class
-    } else {
-        held.prototype
-    };
+    let home = home(member, held.class, held.prototype);
     let request = Request::Method {
         body: member.body,
         scope: held.place,

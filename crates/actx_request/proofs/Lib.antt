@@ -4,6 +4,8 @@ mod Resets
 mod WriteLemmas
 mod WriteOutcomes
 mod FillLemmas
+mod MakeLemmas
 mod PairLemmas
 mod UnitLemmas
 mod OpenLemmas
+mod KeptLemmas

@@ -45,20 +45,21 @@ module _ (k : Key) where
   -- what stands at a key after a write there
   at-with_key : (x : Prop) (ps : List (Key × Prop)) → at_key key_eq k (with_key key_eq k x ps) ≡ Some x
   at-with_key x [] = ap (λ (b : Bool). cond b (Some x) None) (key_itself k)
-  at-with_key x (p ∷ ps) = by (key_eq k p.0) refl
+  at-with_key x (p ∷ ps) = by (key_eq k p.0) refl (at-with_key x ps)
     where
-      by : (b : Bool) → key_eq k p.0 ≡ b → at_key key_eq k (cond b ((p.0, x) ∷ ps) (p ∷ with_key key_eq k x ps)) ≡ Some x
-      by true e = ap (λ (b : Bool). cond b (Some x) (at_key key_eq k ps)) e
-      by false e = ap (λ (b : Bool). cond b (Some p.1) (at_key key_eq k (with_key key_eq k x ps))) e ∙ at-with_key x ps
+      by : (b : Bool) → key_eq k p.0 ≡ b → at_key key_eq k (with_key key_eq k x ps) ≡ Some x → at_key key_eq k (cond b ((p.0, x) ∷ ps) (p ∷ with_key key_eq k x ps)) ≡ Some x
+      by true e rest = ap (λ (b : Bool). cond b (Some x) (at_key key_eq k ps)) e
+      by false e rest = ap (λ (b : Bool). cond b (Some p.1) (at_key key_eq k (with_key key_eq k x ps))) e ∙ rest
 
   -- the later of two writes at a key
   with_key-twice : (x y : Prop) (ps : List (Key × Prop)) → with_key key_eq k y (with_key key_eq k x ps) ≡ with_key key_eq k y ps
   with_key-twice x y [] = ap (λ (b : Bool). cond b ((k, y) ∷ []) ((k, x) ∷ with_key key_eq k y [])) (key_itself k)
-  with_key-twice x y (p ∷ ps) = by (key_eq k p.0) refl
+  with_key-twice x y (p ∷ ps) = by (key_eq k p.0) refl (with_key-twice x y ps)
     where
-      by : (b : Bool) → key_eq k p.0 ≡ b → with_key key_eq k y (cond b ((p.0, x) ∷ ps) (p ∷ with_key key_eq k x ps)) ≡ cond b ((p.0, y) ∷ ps) (p ∷ with_key key_eq k y ps)
-      by true e = ap (λ (b : Bool). cond b ((p.0, y) ∷ ps) ((p.0, x) ∷ with_key key_eq k y ps)) e
-      by false e = ap (λ (b : Bool). cond b ((p.0, y) ∷ with_key key_eq k x ps) (p ∷ with_key key_eq k y (with_key key_eq k x ps))) e ∙ ap (λ (qs : List (Key × Prop)). p ∷ qs) (with_key-twice x y ps)
+      by : (b : Bool) → key_eq k p.0 ≡ b → with_key key_eq k y (with_key key_eq k x ps) ≡ with_key key_eq k y ps
+          → with_key key_eq k y (cond b ((p.0, x) ∷ ps) (p ∷ with_key key_eq k x ps)) ≡ cond b ((p.0, y) ∷ ps) (p ∷ with_key key_eq k y ps)
+      by true e rest = ap (λ (b : Bool). cond b ((p.0, y) ∷ ps) ((p.0, x) ∷ with_key key_eq k y ps)) e
+      by false e rest = ap (λ (b : Bool). cond b ((p.0, y) ∷ with_key key_eq k x ps) (p ∷ with_key key_eq k y (with_key key_eq k x ps))) e ∙ ap (λ (qs : List (Key × Prop)). p ∷ qs) rest
 
   with_value-twice : (u v : Value) (ps : List (Key × Prop)) → with_value k v false (with_value k u false ps) ≡ with_value k v false ps
   with_value-twice u v ps =

@@ -70,6 +70,13 @@ pub(crate) fn put_units(
     }
 }
 
+/// Whether an object is an array.
+fn is_array(objects: &Objects, o: ObjId) -> bool
+    ensures { result ≡ is_array (kind_of objects.now o) }
+{
+    matches!(objects.kind(o), Kind::Array)
+}
+
 /// Writes `undefined` to the first key of what is copied, which tells whether the object takes any. Gives what the request
 /// gives where it doesn't.
 pub(crate) fn open(
@@ -81,7 +88,7 @@ pub(crate) fn open(
     ensures opened { IfOk result (λ r. IfNone r (IsOpened texts.now.texts o k objects.old objects.new)) }
     ensures shut { IfOk result (λ r. IfSome r (λ g. IsShut o k objects.old texts.now g objects.new)) }
 {
-    if matches!(objects.kind(o), Kind::Array) {
+    if is_array(objects, o) {
         return Ok(Some(Given::OutOfProfile(Reason::ArrayProperty)));
     }
     match objects.set(o, k, Value::Undefined, texts) {

@@ -1,6 +1,6 @@
 //! What is copied from a value (CopyDataProperties, ECMA-262 §7.3.25).
 
-ghost use Rattle.std.specs.Prelude.{◌≡◌, IfOk};
+ghost use Rattle.std.specs.Prelude.{◌≡◌, ◌++◌, ◌∷◌, [], if◌then◌else◌, IfOk, OnOk};
 ghost use Rattle.actx_value.specs.Texts.{text_at};
 ghost use Rattle.actx_request.specs.Copies.{is_kept, pair_at, pairs_of, units_of};
 
@@ -64,13 +64,27 @@ pub(crate) fn units_of_text(
 {
     let text = units_of(texts, t);
     let mut units = Vec::new(alloc);
-    for (place, unit) in text.iter().enumerate() {
+    for place in 0..text.len() {
         let Ok(index) = u32::try_from(place) else {
             return Err(AllocError);
         };
-        if is_kept(excluded, Key::Index(index), texts) {
-            units.push((index, *unit))?;
-        }
+        let kept = is_kept(excluded, Key::Index(index), texts);
+        push_kept(&mut units, index, text[place], kept)?;
     }
     Ok(units)
+}
+
+/// Puts a unit with its index at the end where it is kept.
+fn push_kept(
+    units: &mut Vec<(u32, u16)>,
+    index: u32,
+    unit: u16,
+    kept: bool,
+) -> Result<(), AllocError>
+    ensures { OnOk result (units.new.items ≡ units.old.items ++ (if kept then (index, unit) ∷ [] else [])) }
+{
+    if kept {
+        units.push((index, unit))?;
+    }
+    Ok(())
 }

@@ -1,4 +1,7 @@
-use Rattle.std.proofs.Common.{◌≡◌, Bool, false, ℤ, pos, negsuc, sym, ◌∙◌, subst}
+use Rattle.std.proofs.Common.{◌≡◌, Bool, false, ℤ, pos, negsuc, sym, ap, ◌∙◌, subst, rules}
+use Rattle.std.proofs.lemmas.Int.{to_z-of_z}
+use mir.Val.{SFits, of_z, to_z}
+use mir.Syntax.{w64}
 use Rattle.std.specs.declared.result.Result.{Result}
 use Rattle.std.specs.declared.result.Result.TheVariants.{Ok}
 use Rattle.actx_ops.specs.Numbers.{is_below_zero}
@@ -22,4 +25,7 @@ returns c cells =
     let s : Stores = stores c.args.objects.now c.args.texts.now cells in
     let t : Stores = stores c.write.new.objects c.args.texts.now cells in
     let P : Result ℤ Reason → Type 0 = λ r. IsMet (length_written c.args.hidden c.args.o c.args.k r s) s c.in_ok-write.field-0 t in
-    subst P (sym c.in-Ok.is) (from_zero c.args.hidden c.args.o c.args.k c.in-Ok.n (sym c.is_below_zero.ensures ∙ c.if-is_below_zero.false) s c.in_ok-write.field-0 t (c.in_ok-write.ensures cells))
+    let fit : SFits w64 c.in-Ok.n = search rules in
+    let read : is_below_zero (to_z w64 (of_z w64 c.in-Ok.n)) ≡ false = sym c.is_below_zero.ensures ∙ c.if-is_below_zero.false in
+    let above : is_below_zero c.in-Ok.n ≡ false = sym (ap is_below_zero (to_z-of_z w64 c.in-Ok.n fit)) ∙ read in
+    subst P (sym c.in-Ok.is) (from_zero c.args.hidden c.args.o c.args.k c.in-Ok.n above s c.in_ok-write.field-0 t (rw (to_z-of_z w64 c.in-Ok.n fit) at (c.in_ok-write.ensures cells)))

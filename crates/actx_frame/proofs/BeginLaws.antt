@@ -122,7 +122,7 @@ chain_is c ss p e h r v =
     ∙ ap (λ x. λ k. suffixed (map eval_suffix ss.value.items) p (chain_done x p k) (k (Normal (stop_value x))) k r v) h.end
 
 pub begin_delete : (b b1 : Rc Form Global) (ss : Rc (Vec Suffix Global) Global) (c : Chain) (optional : Bool) (key key1 : Key) (p : ScopeId) → b1.value ≡ b.value → eval_key key1 ≡ eval_key key → IsChain c ss p (chain_ends.Delete optional key1) → Leads (Ok (nexts.Under (items.Value (steps.Member (members.Following c values.Undefined))) (controls.Eval b1 p))) (eval (Delete b ss optional key) p)
-unfolding Leads next_work control_work act step_work member_work following chain_done
+unfolding Leads next_work control_work act step_work member_work following chain_done chain_from suffixed
 begin_delete b b1 ss c optional key key1 p hb hk hc =
     (λ i k. eval b1.value p (on_value (λ v. chain_is c ss p (chain_ends.Delete optional key1) hc values.Undefined v i k) k))
     ∙ ap (λ z. λ k. eval z p (deleting_from (map eval_suffix ss.value.items) optional (eval_key key1) p k)) hb

@@ -20,6 +20,13 @@ use Rattle.actx_tree.specs.declared.operator.StepOp.{StepOp}
 use Rattle.actx_code.specs.declared.item.Logic.{Logic}
 use Rattle.actx_want.specs.declared.completion.Completion.{Completion}
 use Rattle.actx_want.specs.declared.completion.Completion.TheVariants.{Normal, Break, Continue, Return, Throw}
+use Rattle.actx_code.specs.declared.form.Form.{Form-F}
+use Rattle.actx_code.specs.declared.form.Form.TheFolds.{map-Form}
+use Rattle.actx_code.specs.declared.pattern.Property.{Property}
+use Rattle.actx_want.specs.Lists.{Listed, Filling}
+use Rattle.actx_want.specs.Members.{Suffixed}
+use Rattle.actx_want.specs.Patterns.{PropertyBinding}
+use Rattle.actx_want.specs.Bodies.{form_step}
 use Rattle.actx_code.specs.declared.form.Form.{Form, the_lemmas, Literal, Name, ChangeName, ChangeMember, Delete, Unary, Not, Void, Operators, Logical, If, Sequence, Template, Suffixes, SuperMember, New, SuperCall, Array, Object, Function, Class, Init, Bind, Block, While, DoWhile, For, ForLet, ForOf, Break as BreakForm, Continue as ContinueForm, Return as ReturnForm, Throw as ThrowForm, Try, Yield, Await, Parameter, RestParameter, Begin}
 use Rattle.actx_code.specs.declared.item.Argument.{Argument}
 use Rattle.actx_code.specs.declared.item.Caught.{Caught}
@@ -191,15 +198,25 @@ form_rest_parameter i x = simp the_lemmas
 
 pub form_begin : eval (Begin) ≡ begin
 unfolding eval eval_argument eval_caught eval_entry eval_change eval_key eval_suffix eval_pattern eval_operand eval_piece eval_element eval_property
-form_begin = simp the_lemmas
+form_begin  = simp the_lemmas
+
+-- a form's layer, with what the parts do in their place
+abbrev done : Form-F Form Argument Caught Entry Change Key Suffix Pattern Operand Piece Element Property → Form-F Meaning Listed Binding Filling Changing Keyed Suffixed Binding Chained Chained Binding PropertyBinding
+done y = map-Form Form Argument Caught Entry Change Key Suffix Pattern Operand Piece Element Property Meaning Listed Binding Filling Changing Keyed Suffixed Binding Chained Chained Binding PropertyBinding eval eval_argument eval_caught eval_entry eval_change eval_key eval_suffix eval_pattern eval_operand eval_piece eval_element eval_property y
+
+logical_step : (op : Logic) (e : Rc Form Global) (es : Rc (Vec (Rc Form Global) Global) Global) → form_step (done (Form-F.Logical op e es)) ≡ logical op (eval e.value) (forms es.value.items)
+logical_step op e es = ap (λ ms. logical op (eval e.value) ms) (shared _ (λ x. refl) es.value.items)
+
+sequence_step : (es : Rc (Vec (Rc Form Global) Global) Global) → form_step (done (Form-F.Sequence es)) ≡ sequence (forms es.value.items)
+sequence_step es = ap (λ ms. sequence ms) (shared _ (λ x. refl) es.value.items)
 
 pub form_logical : (op : Logic) (e : Rc Form Global) (es : Rc (Vec (Rc Form Global) Global) Global) → eval (Logical op e es) ≡ logical op (eval e.value) (forms es.value.items)
 unfolding eval eval_argument eval_caught eval_entry eval_change eval_key eval_suffix eval_pattern eval_operand eval_piece eval_element eval_property
-form_logical op e es = simp the_lemmas (ap (λ ms. logical op (eval e.value) ms) (shared _ (λ x. refl) es.value.items))
+form_logical op e es = let q : eval (Logical op e es) ≡ form_step (done (Form-F.Logical op e es)) = simp the_lemmas in q ∙ logical_step op e es
 
 pub form_sequence : (es : Rc (Vec (Rc Form Global) Global) Global) → eval (Sequence es) ≡ sequence (forms es.value.items)
 unfolding eval eval_argument eval_caught eval_entry eval_change eval_key eval_suffix eval_pattern eval_operand eval_piece eval_element eval_property
-form_sequence es = simp the_lemmas (ap (λ ms. sequence ms) (shared _ (λ x. refl) es.value.items))
+form_sequence es = let q : eval (Sequence es) ≡ form_step (done (Form-F.Sequence es)) = simp the_lemmas in q ∙ sequence_step es
 
 pub form_class : (c : BodyId) (e : Option (Rc Form Global)) (key : Value) (ms : Rc (Vec ClassMember Global) Global) → eval (Class c e key ms) ≡ class c (form_in e) key ms.value.items
 unfolding eval eval_argument eval_caught eval_entry eval_change eval_key eval_suffix eval_pattern eval_operand eval_piece eval_element eval_property

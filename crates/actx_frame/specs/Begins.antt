@@ -20,15 +20,15 @@ pub record IsChain (c : Chain) (ss : Rc (Vec Suffix Global) Global) (p : ScopeId
   pub place : c.place ≡ p
   pub end : c.end ≡ e
 
-pub record IsWhile (l : WhileLoop) (test body : Rc Form Global) (p : ScopeId) : Type 0 where
-  pub test : l.test.value ≡ test.value
-  pub body : l.body.value ≡ body.value
+pub record IsWhile (l : WhileLoop) (t b : Rc Form Global) (p : ScopeId) : Type 0 where
+  pub test : l.test.value ≡ t.value
+  pub body : l.body.value ≡ b.value
   pub place : l.place ≡ p
 
-pub record IsFor (l : ForLoop) (test update body : Rc Form Global) (p : ScopeId) : Type 0 where
-  pub test : l.test.value ≡ test.value
-  pub update : l.update.value ≡ update.value
-  pub body : l.body.value ≡ body.value
+pub record IsFor (l : ForLoop) (t u b : Rc Form Global) (p : ScopeId) : Type 0 where
+  pub test : l.test.value ≡ t.value
+  pub update : l.update.value ≡ u.value
+  pub body : l.body.value ≡ b.value
   pub place : l.place ≡ p
 
 -- a catch clause where there is one

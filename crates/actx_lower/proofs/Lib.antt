@@ -3,6 +3,7 @@ pub mod StmtEquations
 pub mod ShapeEquations
 pub mod Follow
 pub mod FollowParts
+pub mod FollowLayers
 pub mod FollowExprs
 pub mod FollowStmts
 pub mod Worked

@@ -92,9 +92,13 @@ pub class_without_constructor : example.ClassWithoutConstructor
 unfolding all elements_from properties_from declared_from parameters_from in_order items_of tree_made same_units among found_from last_slot
 class_without_constructor = simp (expr_equations, stmt_equations)
 
-pub class_with_members : example.ClassWithMembers
+pub class_with_constructor : example.ClassWithConstructor
 unfolding all elements_from properties_from declared_from parameters_from in_order items_of tree_made same_units among found_from last_slot
-class_with_members = simp (statement-Class, class_of-Class, member_of-Member, method_of-Method, key_of-Word, params_of-Params, statement-Expr, expression-Name, expression-Brackets, expression-Arrow, expression-SuperCall, expression-Left, expression-SuperMember, suffix_of-Call, stmt_bodies-Class, class_bodies-Class, member_bodies-Member, method_bodies-Method, key_bodies-Word, params_bodies-Params, expr_bodies-Name)
+class_with_constructor = simp (statement-Class, class_of-Class, member_of-Member, method_of-Method, key_of-Word, params_of-Params, statement-Expr, expression-Name, expression-Brackets, expression-Arrow, expression-SuperCall, stmt_bodies-Class, class_bodies-Class, member_bodies-Member, method_bodies-Method, key_bodies-Word, params_bodies-Params, expr_bodies-Name)
+
+pub class_with_static : example.ClassWithStatic
+unfolding all elements_from properties_from declared_from parameters_from in_order items_of tree_made same_units among found_from last_slot
+class_with_static = simp (statement-Class, class_of-Class, member_of-Member, method_of-Method, key_of-Word, params_of-Params, statement-Expr, expression-Left, expression-SuperMember, suffix_of-Call, stmt_bodies-Class, class_bodies-Class, member_bodies-Member, method_bodies-Method, key_bodies-Word, params_bodies-Params)
 
 pub class_expression : example.ClassExpression
 unfolding all elements_from properties_from declared_from parameters_from in_order items_of tree_made same_units among found_from last_slot

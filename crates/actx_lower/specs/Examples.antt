@@ -292,27 +292,29 @@ ClassWithoutConstructor = Becomes (file (s.Class (class_of (Some a) (Some (e.Nam
     } ∷ [])
     (a ∷ codes "prototype" ∷ [])
 
--- class a extends console { constructor() { (() => super()); } static k() { super.b(); } }
+-- class a extends console { constructor() { (() => super()); } }; the scope with `this` is one further out in the arrow
 abbrev pub constructor_in : Member
 constructor_in = member_of false (method_of flow.Plain (key.Word (codes "constructor")) no_params (range 90))
 
-abbrev pub static_method : Member
-static_method = member_of true (method_of flow.Plain (key.Word k) no_params (range 80))
-
-abbrev pub class_file : Tree
-class_file = record {
-  items = s.Class (class_of (Some a) (Some (e.Name console)) (constructor_in ∷ static_method ∷ [])) ∷ [];
-  bodies = record { from = 10; items = s.Expr (e.Brackets (e.Arrow false no_params (e.SuperCall []))) ∷ [] }
-      ∷ record { from = 20; items = s.Expr (e.Left (e.SuperMember b) (suffix.Call false [] ∷ [])) ∷ [] } ∷ [];
-}
-
-abbrev pub ClassWithMembers : Type 0
-ClassWithMembers = Becomes class_file
-    (of_file (forms.Block 1 [] (forms.Init 0 (forms.Class (id 1) (Some (forms.Name 1 1)) (text 1) (record { is_static = true; key = text 3; body = id 3 } ∷ []))))
+abbrev pub ClassWithConstructor : Type 0
+ClassWithConstructor = Becomes
+    (with_body (s.Class (class_of (Some a) (Some (e.Name console)) (constructor_in ∷ [])) ∷ []) 10 (s.Expr (e.Brackets (e.Arrow false no_params (e.SuperCall []))) ∷ []))
+    (of_file (forms.Block 1 [] (forms.Init 0 (forms.Class (id 1) (Some (forms.Name 1 1)) (text 1) [])))
     ∷ record { kind = kinds.DerivedClass; flow = flow.Plain; name = 2; hidden = true; cells = 3; form = alone (forms.Function (id 2)) }
-    ∷ record { kind = kinds.Arrow; flow = flow.Plain; name = 0; hidden = false; cells = 0; form = alone (forms.Return (forms.SuperCall 1 [])) }
+    ∷ record { kind = kinds.Arrow; flow = flow.Plain; name = 0; hidden = false; cells = 0; form = alone (forms.Return (forms.SuperCall 1 [])) } ∷ [])
+    (codes "prototype" ∷ a ∷ [])
+
+-- class a { static k() { super.b(); } }
+abbrev pub static_method : Member
+static_method = member_of true (method_of flow.Plain (key.Word k) no_params (range 90))
+
+abbrev pub ClassWithStatic : Type 0
+ClassWithStatic = Becomes
+    (with_body (s.Class (class_of (Some a) None (static_method ∷ [])) ∷ []) 10 (s.Expr (e.Left (e.SuperMember b) (suffix.Call false [] ∷ [])) ∷ []))
+    (of_file (forms.Block 1 [] (forms.Init 0 (forms.Class (id 1) None (text 2) (record { is_static = true; key = text 3; body = id 2 } ∷ []))))
+    ∷ record { kind = kinds.Class; flow = flow.Plain; name = 1; hidden = true; cells = 3; form = forms.Sequence [] }
     ∷ record { kind = kinds.Method; flow = flow.Plain; name = 3; hidden = true; cells = 3; form = alone (forms.SuperMember 0 (text 4) (c_suffix.Call false [] ∷ [])) } ∷ [])
-    (codes "prototype" ∷ a ∷ k ∷ b ∷ [])
+    (a ∷ codes "prototype" ∷ k ∷ b ∷ [])
 
 -- (class a { }); an expression with a name has a scope for it
 abbrev pub ClassExpression : Type 0

@@ -46,7 +46,8 @@ pub fn functions_of_files()
 /// Classes, and `super` in an arrow of a constructor.
 pub fn classes_of_files()
     ensures implicit { example.ClassWithoutConstructor }
-    ensures members { example.ClassWithMembers }
+    ensures constructor { example.ClassWithConstructor }
+    ensures static_method { example.ClassWithStatic }
     ensures expression { example.ClassExpression }
 {}
 

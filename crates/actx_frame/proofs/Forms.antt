@@ -198,7 +198,7 @@ form_rest_parameter i x = simp the_lemmas
 
 pub form_begin : eval (Begin) ≡ begin
 unfolding eval eval_argument eval_caught eval_entry eval_change eval_key eval_suffix eval_pattern eval_operand eval_piece eval_element eval_property
-form_begin  = simp the_lemmas
+form_begin = simp the_lemmas
 
 -- a form's layer, with what the parts do in their place
 abbrev done : Form-F Form Argument Caught Entry Change Key Suffix Pattern Operand Piece Element Property → Form-F Meaning Listed Binding Filling Changing Keyed Suffixed Binding Chained Chained Binding PropertyBinding

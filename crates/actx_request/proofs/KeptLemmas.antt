@@ -18,7 +18,7 @@ module _ (f : ℕ × ℕ → Bool) where
 
   enumerate-push : (n m : ℕ) (us : List ℕ) (u : ℕ) → m ≡ n + length us → enumerate_from n (us ++ u ∷ []) ≡ enumerate_from n us ++ (m, u) ∷ []
   enumerate-push n m [] u h = ap (λ (k : ℕ). (k, u) ∷ []) (let e : n ≡ m = omega arith in e)
-  enumerate-push n m (v ∷ us) u h = ap (λ (xs : List (ℕ × ℕ)). (n, v) ∷ xs) (enumerate-push (suc n) m us u (omega arith))
+  enumerate-push n m (v ∷ us) u h = ap (λ (xs : List (ℕ × ℕ)). (n, v) ∷ xs) (enumerate-push (n + 1) m us u (omega arith))
 
   -- one unit more
   pub kept_step : (text : List ℕ) (i : ℕ) → i < length text → filter f (enumerate_from 0 (take i text)) ++ cond (f (i, get_or text i 0)) ((i, get_or text i 0) ∷ []) [] ≡ filter f (enumerate_from 0 (take (i + 1) text))

@@ -9,3 +9,4 @@ mod PairLemmas
 mod UnitLemmas
 mod OpenLemmas
 mod KeptLemmas
+mod CopyOutcomes

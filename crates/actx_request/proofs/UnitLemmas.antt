@@ -80,11 +80,11 @@ keys ps = map (λ p. p.0) ps
 
 keys-with_key : (k : Key) (x : Prop) (ps : List (Key × Prop)) → keys (with_key key_eq k x ps) ≡ with_one k (keys ps)
 keys-with_key k x [] = refl
-keys-with_key k x (p ∷ ps) = by (key_eq k p.0)
+keys-with_key k x (p ∷ ps) = by (key_eq k p.0) (keys-with_key k x ps)
   where
-    by : (b : Bool) → keys (cond b ((p.0, x) ∷ ps) (p ∷ with_key key_eq k x ps)) ≡ cond b (p.0 ∷ keys ps) (p.0 ∷ with_one k (keys ps))
-    by true = refl
-    by false = ap (λ (js : List Key). p.0 ∷ js) (keys-with_key k x ps)
+    by : (b : Bool) → keys (with_key key_eq k x ps) ≡ with_one k (keys ps) → keys (cond b ((p.0, x) ∷ ps) (p ∷ with_key key_eq k x ps)) ≡ cond b (p.0 ∷ keys ps) (p.0 ∷ with_one k (keys ps))
+    by true h = refl
+    by false h = ap (λ (js : List Key). p.0 ∷ js) h
 
 keys-blank : (ts us : List (List ℕ)) (es : List (ℕ × ℕ)) (n : ℕ) (ps qs : List (Key × Prop)) → keys ps ≡ keys qs → keys (with_pairs ts (blank_pairs es) ps) ≡ keys (with_pairs us (numbered n es) qs)
 keys-blank ts us [] n ps qs h = h

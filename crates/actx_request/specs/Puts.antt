@@ -1,8 +1,9 @@
 -- What the parts of a copy are to do: the first key, and all pairs.
-use Rattle.std.specs.Prelude.{◌≡◌, ℕ, false, List, ◌∷◌, length, Option, Some, None, if◌then◌else◌}
+use Rattle.std.specs.Prelude.{◌≡◌, ℕ, false, List, [], ◌∷◌, length, Option, Some, None, if◌then◌else◌}
 use Rattle.actx_value.specs.Texts.{TextStore}
 use Rattle.actx_value.specs.declared.ids.ObjId.{ObjId}
 use Rattle.actx_value.specs.declared.value.Key.{Key}
+use Rattle.actx_value.specs.declared.value.Key.TheVariants.{Index}
 use Rattle.actx_value.specs.declared.value.Value.{Value}
 use Rattle.actx_value.specs.declared.value.Value.TheVariants.{Undefined}
 use Rattle.actx_value.specs.declared.end.Which.{Which}
@@ -14,6 +15,15 @@ use Rattle.actx_objects.specs.Writes.{with_property}
 use Rattle.actx_request.specs.declared.given.Given.{Given}
 use Rattle.actx_request.specs.Limits.{MeetsObjects, properties_above, text_above}
 use Rattle.actx_request.specs.Copies.{with_pairs_at, with_units, numbered, copy_some}
+
+-- the first key
+abbrev pub first_key : List (Key × Value) → Option Key
+first_key [] = None
+first_key (e ∷ es) = Some e.0
+
+abbrev pub first_index : List (ℕ × ℕ) → Option Key
+first_index [] = None
+first_index (e ∷ es) = Some (Index e.0)
 
 -- an object took the first key, without its value
 pub record IsOpened (texts : List (List ℕ)) (o : ObjId) (k : Key) (before after : ObjectStore) : Type 0 where

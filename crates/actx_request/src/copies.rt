@@ -6,7 +6,7 @@ ghost use Rattle.actx_request.specs.Copies.{source_of, copy_pairs, copy_units, c
 
 use crate::given::{Given, go};
 use crate::home::Home;
-use crate::pairs::{open, put_pairs, put_units};
+use crate::pairs::{first_index, first_key, open, put_pairs, put_units};
 use crate::sources::{pairs_of, units_of_text};
 use crate::writes::takes_none;
 use actx_objects::{Kind, Objects};
@@ -22,10 +22,10 @@ fn copy_pairs(
 ) -> Result<Given, AllocError>
     ensures { IfOk result (λ g. MeetsObjects (copy_pairs o pairs.now) objects.old texts.now g objects.new texts.now) }
 {
-    let Some((k, _)) = pairs.first() else {
+    let Some(k) = first_key(pairs) else {
         return Ok(go(Value::Undefined));
     };
-    if let Some(refused) = open(o, *k, objects, texts)? {
+    if let Some(refused) = open(o, k, objects, texts)? {
         return Ok(refused);
     }
     if put_pairs(o, pairs, objects, texts)? {
@@ -45,10 +45,10 @@ fn copy_units(
 ) -> Result<Given, AllocError>
     ensures { IfOk result (λ g. MeetsObjects (copy_units o units.now) objects.old texts.old g objects.new texts.new) }
 {
-    let Some((index, _)) = units.first() else {
+    let Some(k) = first_index(units) else {
         return Ok(go(Value::Undefined));
     };
-    if let Some(refused) = open(o, Key::Index(*index), objects, texts)? {
+    if let Some(refused) = open(o, k, objects, texts)? {
         return Ok(refused);
     }
     match put_units(alloc, o, units, objects, texts)? {

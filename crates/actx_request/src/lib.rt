@@ -23,3 +23,6 @@ pub use answering::answer;
 pub use given::Given;
 pub use home::Home;
 pub use requests::plain;
+
+#[cfg(test)]
+mod tests;

@@ -6,7 +6,7 @@ ghost use Rattle.actx_objects.specs.Kinds.{is_array};
 ghost use Rattle.actx_objects.specs.Objects.{kind_of, is_frozen};
 ghost use Rattle.actx_request.specs.Limits.{properties_above};
 ghost use Rattle.actx_request.specs.Copies.{with_pairs_at, with_units};
-ghost use Rattle.actx_request.specs.Puts.{with_units_at, units_above, IsOpened, IsShut};
+ghost use Rattle.actx_request.specs.Puts.{first_key, first_index, with_units_at, units_above, IsOpened, IsShut};
 
 use crate::given::Given;
 use crate::lists::stopped;
@@ -98,5 +98,25 @@ pub(crate) fn open(
         Err(SetError::ArrayProperty) => Ok(Some(Given::OutOfProfile(Reason::ArrayProperty))),
         Err(SetError::Full) => Ok(Some(Given::Limit(Which::Properties))),
         Err(SetError::Memory) => Err(AllocError),
+    }
+}
+
+/// The first key of what is copied.
+pub(crate) fn first_key(pairs: &[(Key, Value)]) -> Option<Key>
+    ensures { result ≡ first_key pairs.now }
+{
+    match pairs.first() {
+        Some((k, _)) => Some(*k),
+        None => None,
+    }
+}
+
+/// The first key of units that are copied.
+pub(crate) fn first_index(units: &[(u32, u16)]) -> Option<Key>
+    ensures { result ≡ first_index units.now }
+{
+    match units.first() {
+        Some((index, _)) => Some(Key::Index(*index)),
+        None => None,
     }
 }

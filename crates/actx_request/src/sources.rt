@@ -65,9 +65,10 @@ pub(crate) fn units_of_text(
     let text = units_of(texts, t);
     let mut units = Vec::new(alloc);
     for place in 0..text.len() {
-        let Ok(index) = u32::try_from(place) else {
+        if place > u32::MAX as usize {
             return Err(AllocError);
-        };
+        }
+        let index = place as u32;
         let kept = is_kept(excluded, Key::Index(index), texts);
         push_kept(&mut units, index, text[place], kept)?;
     }

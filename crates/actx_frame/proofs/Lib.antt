@@ -12,8 +12,6 @@ pub mod StatementLaws
 pub mod ClassLaws
 pub mod LoopLaws
 pub mod OfLaws
-pub mod EndingLaws
 pub mod Forms
 pub mod BeginLaws
 pub mod EnterLaws
-pub mod MachineLaws

@@ -1,24 +1,8 @@
-//! Frames of bodies: a body that has begun, what it wants now, and how it goes on with an answer. What a
-//! frame wants is what its body wants after all answers so far, which the frame doesn't keep.
+//! Frames of bodies, the part that is done: the items of all families, what each of them means, the laws of
+//! most of them, and the code of names, changes, operators and templates. There is no frame yet.
 #![tactic(auto)]
 
-mod begin;
-mod endings;
-mod enter;
-mod frame;
-mod items;
-mod lists;
-mod loops;
-mod machine;
-mod members;
-mod names;
-mod operators;
-mod patterns;
+pub mod items;
+pub mod names;
+pub mod operators;
 mod shared;
-mod statements;
-
-pub use frame::Frame;
-pub use machine::Want;
-
-#[cfg(test)]
-mod tests;

@@ -55,3 +55,10 @@ module _ (o : ObjId) (s t : ObjectStore) (texts : TextStore) (k : Key) (opened :
       let more : TextStore = with_units (e ∷ es) texts in
       copy_stopped texts s o (Index e.0) t (moved (Index e.0) (let j : Index e.0 ≡ k = cc in j)) (TextValue (record { 0 = n })) (numbered (suc n) es) more refl cells (stores u v cells)
       (properties_above t (with_units_at (e ∷ es) o t texts)) (text_above texts more) w refl refl (sym high)
+
+-- an object that takes nothing
+pub pairs_shut : (o : ObjId) (s : ObjectStore) (texts : TextStore) (k : Key) (g : Given) (u : ObjectStore) (pairs : List (Key × Value)) → first_key pairs ≡ Some k → IsShut o k s texts g u → MeetsObjects (copy_pairs o pairs) s texts g u texts
+pairs_shut o s texts k g u [] h shut cells = absurd (cc)
+pairs_shut o s texts k g u (e ∷ es) h shut cells =
+    let shut' : IsShut o e.0 s texts g u = subst (λ (i : Key). IsShut o i s texts g u) (let j : k ≡ e.0 = cc in j) shut in
+    shut' e.1 es texts.texts refl cells

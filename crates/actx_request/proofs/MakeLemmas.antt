@@ -80,15 +80,16 @@ module _ (s : ObjectStore) (home : Home) (vs : List Value) where
   array_done o u number room free is texts cells =
       let same : o ≡ next_object s = ap (λ (n : ℕ). let i : ObjId = record { 0 = n } in i) number in
       let above : first_above (stores s texts cells) (stores whole texts cells) ≡ None =
-          made_first s kinds.Array (Some home.array) texts texts cells whole false false as_long room (ap (λ (i : ObjId). properties_above begun (filled vs i begun)) (sym same) ∙ free) (stays texts.limit (units_of texts.texts)) in
-      (ap (λ (i : ObjId). Answer (Go (values.Object i))) same ∙ sym (ap (within (Answer (Go (values.Object (next_object s))))) above),
-      ap (λ (t : ObjectStore). stores t texts cells) (is ∙ ap (λ (i : ObjId). filled vs i begun) same))
+      made_first s kinds.Array (Some home.array) texts texts cells whole false false as_long room (ap (λ (i : ObjId). properties_above begun (filled vs i begun)) (sym same) ∙ free) (stays texts.limit (units_of texts.texts)) in (
+        ap (λ (i : ObjId). Answer (Go (values.Object i))) same ∙ sym (ap (within (Answer (Go (values.Object (next_object s))))) above),
+        ap (λ (t : ObjectStore). stores t texts cells) (is ∙ ap (λ (i : ObjId). filled vs i begun) same),
+      )
 
   pub array_wide : (o : ObjId) (u : ObjectStore) → o.0 ≡ length s.objects → (s.most_objects ≤ length s.objects → ⊥) → properties_above begun (filled vs o begun) ≡ true → MeetsObjectsAlone (array_of home vs) s (Limit Properties) u
   array_wide o u number room wide texts cells =
       let same : o ≡ next_object s = ap (λ (n : ℕ). let i : ObjId = record { 0 = n } in i) number in
       let above : first_above (stores s texts cells) (stores whole texts cells) ≡ Some Properties =
-          made_first s kinds.Array (Some home.array) texts texts cells whole true false as_long room (ap (λ (i : ObjId). properties_above begun (filled vs i begun)) (sym same) ∙ wide) (stays texts.limit (units_of texts.texts)) in
+      made_first s kinds.Array (Some home.array) texts texts cells whole true false as_long room (ap (λ (i : ObjId). properties_above begun (filled vs i begun)) (sym same) ∙ wide) (stays texts.limit (units_of texts.texts)) in
       (sym (ap (within (Answer (Go (values.Object (next_object s))))) above), tt)
 
   pub array_none : (u : ObjectStore) → s.most_objects ≤ length s.objects → MeetsObjectsAlone (array_of home vs) s (Limit Objects) u

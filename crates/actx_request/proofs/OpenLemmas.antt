@@ -149,7 +149,7 @@ module _ (texts : TextStore) (s : ObjectStore) (o : ObjId) (k : Key) where
       let whole : ObjectStore = with_pairs_at more ((k, v) ∷ rest) o s in
       let one : properties_above s (with_property s o (normal_key texts.texts k) Undefined false) ≡ true = ap (λ (u : ObjectStore). properties_above s u) (sym (plain_write h)) ∙ written_above texts.texts s o k Undefined false full in
       let many : properties_above s whole ≡ true =
-          over s.most_properties (property_count s.objects) (property_count s.objects) (property_count (with_property s o (normal_key texts.texts k) Undefined false).objects) (property_count whole.objects) (omega arith) one (first_least there.0 there.1 more same v rest) in
+      over s.most_properties (property_count s.objects) (property_count s.objects) (property_count (with_property s o (normal_key texts.texts k) Undefined false).objects) (property_count whole.objects) (omega arith) one (first_least there.0 there.1 more same v rest) in
       let few : objects_above s whole ≡ false = kept s.most_objects (length s.objects) (length whole.objects) (let e : length whole.objects ≡ length s.objects = length-changed s o (λ (y : Object). record y { props = with_pairs more ((k, v) ∷ rest) y.props }) in omega arith) in
       let above : first_above (stores s texts cells) (copied_to o s c (stores s texts cells)) ≡ Some Properties = rw (few, many) refl in
       kinds c cells (Limit Properties) t false false h thawed (sym (ap (within (Answer (Go Undefined))) above), tt)
@@ -214,9 +214,9 @@ module _ (texts : TextStore) (s : ObjectStore) (o : ObjId) (k : Key) where
           let whole : ObjectStore = with_pairs_at more.texts ((k, v) ∷ rest) o s in
           let fit : properties_above s (with_property s o (normal_key texts.texts k) Undefined false) ≡ false = sym (ap (λ (u : ObjectStore). properties_above s u) opened.opened) ∙ opened.fits in
           let many : properties_above s whole ≡ p =
-              opened_above there.0 there.1 more.texts same v rest fit
-              ∙ sym (ap (λ (u : ObjectStore). properties_above u (with_pairs_at more.texts ((k, v) ∷ rest) o u)) opened.opened)
-              ∙ i in
+          opened_above there.0 there.1 more.texts same v rest fit
+          ∙ sym (ap (λ (u : ObjectStore). properties_above u (with_pairs_at more.texts ((k, v) ∷ rest) o u)) opened.opened)
+          ∙ i in
           let few : objects_above s whole ≡ false = kept s.most_objects (length s.objects) (length whole.objects) (let e : length whole.objects ≡ length s.objects = length-changed s o (λ (y : Object). record y { props = with_pairs more.texts ((k, v) ∷ rest) y.props }) in omega arith) in
           rw (few, many, stays cells.limit (count_of cells.scopes), j) refl
 

@@ -124,6 +124,6 @@ module _ (texts : List (List ℕ)) where
           let less : property_count s.objects ≤ property_count t.objects = omega (arith, put_count es, pairs_grow es x.props) in
           let step : property_count u.objects ≡ property_count (with_pairs_at texts (es ++ (k, v) ∷ []) o s).objects = ap (λ (w : ObjectStore). property_count w.objects) (put_step es k v) in
           let grown : length (with_pairs texts (es ++ (k, v) ∷ []) x.props) ≤ length (with_pairs texts (es ++ (k, v) ∷ rest) x.props) =
-              rw (pairs-append es ((k, v) ∷ []) x.props, pairs-append es ((k, v) ∷ rest) x.props) (pairs_grow rest (with_value (normal_key texts k) v false (with_pairs texts es x.props))) in
+          rw (pairs-append es ((k, v) ∷ []) x.props, pairs-append es ((k, v) ∷ rest) x.props) (pairs_grow rest (with_value (normal_key texts k) v false (with_pairs texts es x.props))) in
           let more : property_count u.objects ≤ property_count whole.objects = omega (arith, put_count (es ++ (k, v) ∷ []), put_count (es ++ (k, v) ∷ rest)) in
           over s.most_properties (property_count s.objects) (property_count t.objects) (property_count u.objects) (property_count whole.objects) less next' more

@@ -27,7 +27,7 @@ count-with_cell scopes slot v s = by (slice_get scopes s.0) refl
         let long : length (slice_set x.cells slot (Some v)) ≡ length x.cells = length-set x.cells slot (Some v) in
         let read : suc (length (get_or scopes s.0 x).cells) ≡ suc (length x.cells) = ap (λ (y : Scope). suc (length y.cells)) (get_or_from_slice_get scopes s.0 x x e) in
         let same : count_of (slice_set scopes s.0 (record { parent = x.parent; cells = slice_set x.cells slot (Some v) })) ≡ count_of scopes =
-            omega (arith, sum_by-set (λ (y : Scope). suc (length y.cells)) scopes s.0 (record { parent = x.parent; cells = slice_set x.cells slot (Some v) }) x (slice_get_within scopes s.0 x e)) in
+        omega (arith, sum_by-set (λ (y : Scope). suc (length y.cells)) scopes s.0 (record { parent = x.parent; cells = slice_set x.cells slot (Some v) }) x (slice_get_within scopes s.0 x e)) in
         ap (λ w. count_of (option_map_or (λ x. slice_set scopes s.0 (record { parent = x.parent; cells = slice_set x.cells slot (Some v) })) w scopes)) e ∙ same
 
 pub count-with_value_at : (scopes : List Scope) (s : ScopeId) (hops slot : ℕ) (v : Value) → count_of (with_value_at scopes s hops slot v) ≡ count_of scopes

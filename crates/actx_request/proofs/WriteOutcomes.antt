@@ -31,13 +31,13 @@ module _ (hidden : Bool) (o : ObjId) (k : Key) (v : Value) (objects : ObjectStor
   pub write_done : (after : ObjectStore) → refusal_of texts.texts objects o k v ≡ None → after ≡ written texts.texts objects o k v hidden → MeetsObjects (write_to hidden o k v) objects texts (Answer (Go Undefined)) after texts
   write_done after free is cells =
       let above : first_above (stores objects texts cells) (stores (written texts.texts objects o k v hidden) texts cells) ≡ None =
-          objects_alone texts cells objects (written texts.texts objects o k v hidden) false (length-written texts.texts objects o k v hidden) (written_fits texts.texts objects o k v hidden free) in
+      objects_alone texts cells objects (written texts.texts objects o k v hidden) false (length-written texts.texts objects o k v hidden) (written_fits texts.texts objects o k v hidden free) in
       subst (by_refusal after (Answer (Go Undefined)) cells) (sym free) (sym (ap (within (Answer (Go Undefined))) above), ap (λ p. stores p texts cells) is)
 
   pub write_full : (after : ObjectStore) → refusal_of texts.texts objects o k v ≡ Some Full → MeetsObjects (write_to hidden o k v) objects texts (Limit Properties) after texts
   write_full after full cells =
       let above : first_above (stores objects texts cells) (stores (written texts.texts objects o k v hidden) texts cells) ≡ Some Properties =
-          objects_alone texts cells objects (written texts.texts objects o k v hidden) true (length-written texts.texts objects o k v hidden) (written_above texts.texts objects o k v hidden full) in
+      objects_alone texts cells objects (written texts.texts objects o k v hidden) true (length-written texts.texts objects o k v hidden) (written_above texts.texts objects o k v hidden full) in
       subst (by_refusal after (Limit Properties) cells) (sym full) (sym (ap (within (Answer (Go Undefined))) above), tt)
 
   pub write_frozen : (after : ObjectStore) → refusal_of texts.texts objects o k v ≡ Some Frozen → after ≡ objects → MeetsObjects (write_to hidden o k v) objects texts (Throw (TypeError 4)) after texts
@@ -51,5 +51,5 @@ module _ (o : ObjId) (k : Key) (objects : ObjectStore) (texts : TextStore) where
   pub delete_done : (after : ObjectStore) → delete_refusal texts.texts objects o k ≡ None → after ≡ deleted texts.texts objects o k → MeetsObjects (delete_on o k) objects texts (Answer (Go (Truth true))) after texts
   delete_done after free is cells =
       let above : first_above (stores objects texts cells) (stores (deleted texts.texts objects o k) texts cells) ≡ None =
-          objects_alone texts cells objects (deleted texts.texts objects o k) false (length-deleted texts.texts objects o k) (deleted_fits texts.texts objects o k) in
+      objects_alone texts cells objects (deleted texts.texts objects o k) false (length-deleted texts.texts objects o k) (deleted_fits texts.texts objects o k) in
       subst (by_refusal' after (Answer (Go (Truth true))) cells) (sym free) (sym (ap (within (Answer (Go (Truth true)))) above), ap (λ p. stores p texts cells) is)

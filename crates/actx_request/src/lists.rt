@@ -52,11 +52,7 @@ fn fill(o: ObjId, list: &[Value], objects: &mut Objects) -> Result<bool, AllocEr
 }
 
 /// A new array of these values (CreateArrayFromList, ECMA-262 §7.3.18).
-pub(crate) fn array(
-    home: &Home,
-    list: &[Value],
-    objects: &mut Objects,
-) -> Result<Given, AllocError>
+pub(crate) fn array(home: &Home, list: &[Value], objects: &mut Objects) -> Result<Given, AllocError>
     ensures { IfOk result (λ g. MeetsObjectsAlone (array_of home.now list.now) objects.old g objects.new) }
 {
     match objects.make(Kind::Array, Some(home.array)) {

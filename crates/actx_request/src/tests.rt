@@ -80,8 +80,7 @@ fn start(
     most_cells: u64,
     most_units: u64,
 ) -> Result<Option<Run>, Fail> {
-    if most_objects >= 1000 || most_properties >= 1000 || most_cells >= 1000 || most_units >= 1000
-    {
+    if most_objects >= 1000 || most_properties >= 1000 || most_cells >= 1000 || most_units >= 1000 {
         return Ok(None);
     }
     let mut objects = Objects::new(alloc, most_objects, most_properties);
@@ -181,7 +180,10 @@ fn scopes_and_operators(rt: HostRuntime) -> Result<(), Fail> {
         (load(outer, 0, 0), gives(one)),
         (store(inner, 1, 0, Value::Null), gives(Value::Undefined)),
         (load(outer, 0, 0), gives(Value::Null)),
-        (Request::Fork { scope: outer }, gives(Value::Scope(ScopeId(2)))),
+        (
+            Request::Fork { scope: outer },
+            gives(Value::Scope(ScopeId(2))),
+        ),
         (load(ScopeId(2), 0, 0), gives(Value::Null)),
         (Request::Fork { scope: outer }, stops(Which::Cells)),
     ];
@@ -392,13 +394,22 @@ fn arguments_and_lists(rt: HostRuntime) -> Result<(), Fail> {
     };
     let given = [Value::Null, Value::Bool(true), Value::Num(3)];
     let arg = |index| Request::Arg { index };
-    assert_eq!(rt; ask_with(alloc, &mut run, arg(1), &[], &given)?, gives(Value::Bool(true)));
-    assert_eq!(rt; ask_with(alloc, &mut run, arg(3), &[], &given)?, gives(Value::Undefined));
+    assert_eq!(rt;
+        ask_with(alloc, &mut run, arg(1), &[], &given)?,
+        gives(Value::Bool(true))
+    );
+    assert_eq!(rt;
+        ask_with(alloc, &mut run, arg(3), &[], &given)?,
+        gives(Value::Undefined)
+    );
     let from = Request::ArgsFrom { index: 1 };
     let list = Value::Object(ObjId(5));
     assert_eq!(rt; ask_with(alloc, &mut run, from, &[], &given)?, gives(list));
     let pair = Value::Object(ObjId(6));
-    assert_eq!(rt; ask_with(alloc, &mut run, Request::Array, &given, &[])?, gives(pair));
+    assert_eq!(rt;
+        ask_with(alloc, &mut run, Request::Array, &given, &[])?,
+        gives(pair)
+    );
     let rows = [
         (get(list, LENGTH), gives(Value::Num(2))),
         (get(list, Value::Num(0)), gives(Value::Bool(true))),
@@ -443,7 +454,10 @@ fn first_limit_in_their_order(rt: HostRuntime) -> Result<(), Fail> {
         return Ok(());
     };
     let rows = [
-        (Request::Rest { from: Value::Null }, throws(ErrorKind::NO_PROPERTY)),
+        (
+            Request::Rest { from: Value::Null },
+            throws(ErrorKind::NO_PROPERTY),
+        ),
         (Request::Object, gives(o)),
         (Request::Object, stops(Which::Objects)),
         (

@@ -34,9 +34,10 @@ loop-v-preserved c =
     let more : take (c.loop-v.v-index + 1) c.args.list.now ≡ us ++ v ∷ [] = rw add-one (take-suc c.args.list.now c.loop-v.v-index Undefined c.loop-v-test.true) in
     let free : push_refusal (filled us c.args.o s) c.args.o ≡ None = sym (ap (λ (t : ObjectStore). push_refusal t c.args.o) c.loop-v.invariant.0) ∙ c.in_default.ensures.refused in
     let whole : c.push.new.self ≡ filled (us ++ v ∷ []) c.args.o s =
-        c.in_default.ensures.ok ∙ ap (λ (t : ObjectStore). pushed t c.args.o v) c.loop-v.invariant.0 ∙ fill_step s c.args.o there.0 there.1 c.requires.thawed c.requires.empty us v in
-    (whole ∙ ap (λ (vs : List Value). filled vs c.args.o s) (sym more),
-    ap (λ (t : ObjectStore). properties_above s t) whole ∙ fill_fits s c.args.o there.0 there.1 c.requires.thawed c.requires.empty us v free)
+    c.in_default.ensures.ok ∙ ap (λ (t : ObjectStore). pushed t c.args.o v) c.loop-v.invariant.0 ∙ fill_step s c.args.o there.0 there.1 c.requires.thawed c.requires.empty us v in (
+      whole ∙ ap (λ (vs : List Value). filled vs c.args.o s) (sym more),
+      ap (λ (t : ObjectStore). properties_above s t) whole ∙ fill_fits s c.args.o there.0 there.1 c.requires.thawed c.requires.empty us v free,
+    )
 
 pub returns-in-Err-clause-fits : goal.returns-in-Err-clause-fits
 returns-in-Err-clause-fits c =
@@ -46,8 +47,8 @@ returns-in-Err-clause-fits c =
     let n : length us ≡ min c.loop-v.v-index (length c.args.list.now) = length-take c.loop-v.v-index c.args.list.now in
     let less : length us < length c.args.list.now = omega arith in
     let refused : push_refusal (filled us c.args.o s) c.args.o ≡ Some c.in-Err.e =
-        sym (ap (λ (t : ObjectStore). push_refusal t c.args.o) c.loop-v.invariant.0)
-        ∙ refusal_is (Unit {0}) (push_refusal c.loop-v.objects c.args.o) c.in-Err.e c.in_ok-stopped.ensures.memory c.in-Err.ensures.refused in
+    sym (ap (λ (t : ObjectStore). push_refusal t c.args.o) c.loop-v.invariant.0)
+    ∙ refusal_is (Unit {0}) (push_refusal c.loop-v.objects c.args.o) c.in-Err.e c.in_ok-stopped.ensures.memory c.in-Err.ensures.refused in
     c.in_ok-stopped.ensures.stops ∙ sym (ap not (fill_full s c.args.o there.0 there.1 c.requires.thawed c.requires.empty us c.args.list.now c.in-Err.e refused less))
 
 pub returns-clause-fits : goal.returns-clause-fits

@@ -31,9 +31,10 @@ loop-k-preserved c =
     let free : refusal_of texts (with_pairs_at texts es c.args.o s) c.args.o e.0 e.1 ≡ None = sym (ap (λ (t : ObjectStore). refusal_of texts t c.args.o e.0 e.1) c.loop-k.invariant.0) ∙ c.in_default.ensures.refused in
     let low : properties_above s (with_pairs_at texts es c.args.o s) ≡ false = sym (ap (λ (t : ObjectStore). properties_above s t) c.loop-k.invariant.0) ∙ c.loop-k.invariant.1 in
     let whole : c.set.new.self ≡ written texts (with_pairs_at texts es c.args.o s) c.args.o e.0 e.1 false =
-        c.in_default.ensures.ok ∙ ap (λ (t : ObjectStore). written texts t c.args.o e.0 e.1 false) c.loop-k.invariant.0 in
-    (whole ∙ put_step texts s c.args.o there.0 there.1 c.requires.thawed c.requires.plain es e.0 e.1 ∙ ap (λ (ws : List (Key × Value)). with_pairs_at texts ws c.args.o s) (sym more),
-    ap (λ (t : ObjectStore). properties_above s t) whole ∙ put_fits texts s c.args.o there.0 there.1 c.requires.thawed c.requires.plain es e.0 e.1 low free)
+    c.in_default.ensures.ok ∙ ap (λ (t : ObjectStore). written texts t c.args.o e.0 e.1 false) c.loop-k.invariant.0 in (
+      whole ∙ put_step texts s c.args.o there.0 there.1 c.requires.thawed c.requires.plain es e.0 e.1 ∙ ap (λ (ws : List (Key × Value)). with_pairs_at texts ws c.args.o s) (sym more),
+      ap (λ (t : ObjectStore). properties_above s t) whole ∙ put_fits texts s c.args.o there.0 there.1 c.requires.thawed c.requires.plain es e.0 e.1 low free,
+    )
 
 pub returns-in-Err-clause-fits : goal.returns-in-Err-clause-fits
 returns-in-Err-clause-fits c =
@@ -45,8 +46,8 @@ returns-in-Err-clause-fits c =
     let rest : List (Key × Value) = drop (suc c.loop-k.k-index) c.args.pairs.now in
     let all : es ++ (e.0, e.1) ∷ rest ≡ c.args.pairs.now = ap (λ (ws : List (Key × Value)). es ++ ws) (sym (drop-cons c.args.pairs.now c.loop-k.k-index (Index 0, Undefined) c.loop-k-test.true)) ∙ take-append-drop c.loop-k.k-index c.args.pairs.now in
     let refused : refusal_of texts (with_pairs_at texts es c.args.o s) c.args.o e.0 e.1 ≡ Some c.in-Err.e =
-        sym (ap (λ (t : ObjectStore). refusal_of texts t c.args.o e.0 e.1) c.loop-k.invariant.0)
-        ∙ refusal_is (Unit {0}) (refusal_of texts c.loop-k.objects c.args.o e.0 e.1) c.in-Err.e c.in_ok-stopped.ensures.memory c.in-Err.ensures.refused in
+    sym (ap (λ (t : ObjectStore). refusal_of texts t c.args.o e.0 e.1) c.loop-k.invariant.0)
+    ∙ refusal_is (Unit {0}) (refusal_of texts c.loop-k.objects c.args.o e.0 e.1) c.in-Err.e c.in_ok-stopped.ensures.memory c.in-Err.ensures.refused in
     let full : properties_above s (with_pairs_at texts (es ++ (e.0, e.1) ∷ rest) c.args.o s) ≡ true = put_full texts s c.args.o there.0 there.1 c.requires.thawed c.requires.plain es rest e.0 e.1 c.in-Err.e refused in
     c.in_ok-stopped.ensures.stops ∙ sym (ap not (ap (λ (ws : List (Key × Value)). properties_above s (with_pairs_at texts ws c.args.o s)) (sym all) ∙ full))
 

@@ -34,17 +34,18 @@ loop-index-preserved c =
     let units : units_of c.loop-index.texts.texts ≡ units_of (with_units some t).texts = ap (λ (x : TextStore). units_of x.texts) c.loop-index.invariant.1 in
     let one : length c.in_ok-unit_text.field-0 ≡ 1 = ap length c.in_ok-unit_text.ensures in
     let number : c.in-Ok.id.0 ≡ n + length some =
-        c.in-Ok.ensures.number ∙ ap (added_number c.loop-index.texts.texts) c.in_ok-unit_text.ensures ∙ ap (λ (x : TextStore). length x.texts) c.loop-index.invariant.1 ∙ length-with_units some t in
+    c.in-Ok.ensures.number ∙ ap (added_number c.loop-index.texts.texts) c.in_ok-unit_text.ensures ∙ ap (λ (x : TextStore). length x.texts) c.loop-index.invariant.1 ∙ length-with_units some t in
     let left : c.add.new.self ≡ with_units (some ++ e ∷ []) t =
-        c.in-Ok.ensures.ok
-        ∙ ap (λ (u : List ℕ). let x : TextStore = record { texts = with_text c.loop-index.texts.texts u; limit = c.loop-index.texts.limit } in x) c.in_ok-unit_text.ensures
-        ∙ ap (λ (x : TextStore). let y : TextStore = record { texts = x.texts ++ (e.1 ∷ []) ∷ []; limit = x.limit } in y) c.loop-index.invariant.1
-        ∙ sym (with_units-push some e t) in
-    let room : units_of (with_units some t).texts + 1 ≤ t.limit = grind (arith, c.in-Ok.ensures.full) in
-    (c.in_ok-push-in-Ok.ensures.items
-    ∙ ap (λ (ps : List (Key × Value)). ps ++ (Index e.0, Text c.in-Ok.id) ∷ []) c.loop-index.invariant.0
-    ∙ ap (λ (i : ℕ). numbered n some ++ (Index e.0, Text (record { 0 = i })) ∷ []) number
-    ∙ sym (numbered-push n (n + length some) some e refl)
-    ∙ ap (numbered n) (sym more),
-    left ∙ ap (λ (es : List (ℕ × ℕ)). with_units es t) (sym more),
-    ap (λ (x : TextStore). text_above t x) left ∙ units_fit some e t room)
+    c.in-Ok.ensures.ok
+    ∙ ap (λ (u : List ℕ). let x : TextStore = record { texts = with_text c.loop-index.texts.texts u; limit = c.loop-index.texts.limit } in x) c.in_ok-unit_text.ensures
+    ∙ ap (λ (x : TextStore). let y : TextStore = record { texts = x.texts ++ (e.1 ∷ []) ∷ []; limit = x.limit } in y) c.loop-index.invariant.1
+    ∙ sym (with_units-push some e t) in
+    let room : units_of (with_units some t).texts + 1 ≤ t.limit = grind (arith, c.in-Ok.ensures.full) in (
+      c.in_ok-push-in-Ok.ensures.items
+          ∙ ap (λ (ps : List (Key × Value)). ps ++ (Index e.0, Text c.in-Ok.id) ∷ []) c.loop-index.invariant.0
+          ∙ ap (λ (i : ℕ). numbered n some ++ (Index e.0, Text (record { 0 = i })) ∷ []) number
+          ∙ sym (numbered-push n (n + length some) some e refl)
+          ∙ ap (numbered n) (sym more),
+      left ∙ ap (λ (es : List (ℕ × ℕ)). with_units es t) (sym more),
+      ap (λ (x : TextStore). text_above t x) left ∙ units_fit some e t room,
+    )

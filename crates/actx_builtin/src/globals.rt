@@ -1,6 +1,6 @@
 //! The values of the global names, and the built-in prototypes.
 
-ghost use Rattle.std.specs.Prelude.{◌≡◌};
+ghost use Rattle.std.specs.Prelude.{◌≡◌, slice_get};
 ghost use Rattle.actx_builtin.specs.Globals.{global_of, kind_path, object_at, prototype_of};
 ghost use Rattle.std.specs.Option.{option_and_then};
 
@@ -41,11 +41,18 @@ const GLOBALS: [Value; 29] = [
     Value::Object(ObjId(135)),
 ];
 
+/// What stands at a place of a table, where there is such a place.
+fn value_at(table: &[Value], place: u32) -> Option<Value>
+    ensures { result ≡ slice_get table.now place }
+{
+    table.get(place as usize).copied()
+}
+
 /// The value of a slot of the global names, and `None` exactly where there is no such slot.
 pub fn global(slot: u32) -> Option<Value>
     ensures { result ≡ global_of slot }
 {
-    GLOBALS.get(slot as usize).copied()
+    value_at(&GLOBALS, slot)
 }
 
 /// The prototype of the objects of a kind, where it is built in.

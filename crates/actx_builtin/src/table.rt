@@ -1,6 +1,6 @@
 //! The table of the built-in objects.
 
-ghost use Rattle.std.specs.Prelude.{◌≡◌};
+ghost use Rattle.std.specs.Prelude.{◌≡◌, slice_get};
 ghost use Rattle.actx_builtin.specs.Table.{callable_of, count};
 
 use crate::built::Built;
@@ -172,12 +172,19 @@ const BUILTS: [Option<Built>; 161] = [
     Some(Built::Bundled(18)),
 ];
 
+/// What stands at a place of a table, where there is such a place.
+fn entry_at(table: &[Option<Built>], place: u32) -> Option<Option<Built>>
+    ensures { result ≡ slice_get table.now place }
+{
+    table.get(place as usize).copied()
+}
+
 /// What a built-in function is called as, by its object number, and `None` exactly for every other object number.
 pub fn callable(o: ObjId) -> Option<Built>
     ensures { result ≡ callable_of o }
 {
-    match BUILTS.get(o.0 as usize) {
-        Some(built) => *built,
+    match entry_at(&BUILTS, o.0) {
+        Some(built) => built,
         None => None,
     }
 }

@@ -12,6 +12,8 @@ pub mod StatementLaws
 pub mod ClassLaws
 pub mod LoopLaws
 pub mod OfLaws
+pub mod EndingLaws
 pub mod Forms
 pub mod BeginLaws
 pub mod EnterLaws
+pub mod MachineLaws

@@ -7,5 +7,8 @@ pub mod Patterns
 pub mod Statements
 pub mod Loops
 pub mod Endings
+pub mod Ends
 pub mod Begins
 pub mod Stack
+pub mod Machine
+pub mod Frames

@@ -1,8 +1,24 @@
-//! Frames of bodies, the part that is done: the items of all families, what each of them means, the laws of
-//! most of them, and the code of names, changes, operators and templates. There is no frame yet.
+//! Frames of bodies: a body that has begun, what it wants now, and how it goes on with an answer. What a
+//! frame wants is what its body wants after all answers so far, which the frame doesn't keep.
 #![tactic(auto)]
 
-pub mod items;
-pub mod names;
-pub mod operators;
+mod begin;
+mod endings;
+mod enter;
+mod frame;
+mod items;
+mod lists;
+mod loops;
+mod machine;
+mod members;
+mod names;
+mod operators;
+mod patterns;
 mod shared;
+mod statements;
+
+pub use frame::Frame;
+pub use machine::Want;
+
+#[cfg(test)]
+mod tests;

@@ -1,0 +1,12 @@
+mod Above
+mod ScopeLemmas
+mod Resets
+mod WriteLemmas
+mod WriteOutcomes
+mod FillLemmas
+mod MakeLemmas
+mod PairLemmas
+mod UnitLemmas
+mod OpenLemmas
+mod KeptLemmas
+mod CopyOutcomes

@@ -1,0 +1,13 @@
+pub mod Plain
+pub mod Outcomes
+pub mod Limits
+pub mod Scopes
+pub mod Operators
+pub mod Arguments
+pub mod Members
+pub mod Writes
+pub mod Lists
+pub mod Copies
+pub mod Puts
+pub mod Answers
+pub mod Groups

@@ -4,3 +4,4 @@ pub mod Phases
 pub mod Statuses
 pub mod Refusals
 pub mod Told
+pub mod LowTrees

@@ -1,11 +1,14 @@
 -- Which files are accepted, what they print, and which refusal the others meet.
-use Rattle.std.specs.Prelude.{◌≡◌, ℕ, ◌<◌, ◌≤◌, List, length}
+use Rattle.std.specs.Prelude.{◌≡◌, ℕ, ◌<◌, ◌≤◌, List, [], length, Some}
 use Rattle.actx_text.specs.Utf8.{IsFirstIllFormed}
 use Rattle.actx_text.specs.Texts.{IsTextOf}
 use Rattle.actx_lex.specs.declared.token.Token.{Token}
 use Rattle.actx_lex.specs.TokenLists.{SpellsTokens, Reaches}
 use Rattle.actx_tree.specs.declared.tree.Tree.{Tree}
 use Rattle.actx_program.specs.Trees.{SpTree}
+use Rattle.actx_scope.specs.declared.early.Early.{Early}
+use Rattle.actx_scope.specs.declared.early.EarlyKind.{EarlyKind}
+use Rattle.actx_scope.specs.Early.{early_errors, first_error}
 use Rattle.actx_printing.specs.declared.lit.Lit.{Lit}
 use Rattle.actx_printing.specs.Printing.{Prints}
 use Rattle.actx_cli.specs.declared.answer.Refusal.{Refusal}
@@ -36,6 +39,11 @@ pub record IsParsed (bytes : List ℕ) (tree : Tree) : Type 0 where
   pub spelled : SpTree tokens tree levels
   pub fits : levels ≤ 201
 
+-- the bytes are those of a tree without early errors
+pub record IsSound (bytes : List ℕ) (tree : Tree) : Type 0 where
+  pub parsed : IsParsed bytes tree
+  pub sound : early_errors tree ≡ []
+
 -- the tokens spell no tree
 abbrev pub HasNoTree : List Token → Type 0
 HasNoTree tokens = (tree : Tree) (levels : ℕ) → SpTree tokens tree levels → ⊥
@@ -45,6 +53,10 @@ pub record IsNested (tokens : List Token) : Type 0 where
   pub long : 100 < length tokens
   pub deep : (tree : Tree) (levels : ℕ) → SpTree tokens tree levels → 201 < levels
 
+-- the node of this number has the first early error of the tree
+abbrev pub HasEarlyError : Tree → ℕ → Type 0
+HasEarlyError tree at = (kind : EarlyKind) × (first_error tree ≡ Some (record { kind = kind; at = at }))
+
 -- not every statement is a printing statement
 abbrev pub IsNotBuilt : Tree → Type 0
 IsNotBuilt tree = (literals : List (List Lit)) → Prints tree literals → ⊥
@@ -53,7 +65,7 @@ IsNotBuilt tree = (literals : List (List Lit)) → Prints tree literals → ⊥
 pub record IsAccepted (bytes text : List ℕ) : Type 0 where
   pub short : length bytes ≤ longest
   pub tree : Tree
-  pub parsed : IsParsed bytes tree
+  pub is_sound : IsSound bytes tree
   pub literals : List (List Lit)
   pub prints : Prints tree literals
   pub text_is : text ≡ printed literals
@@ -64,7 +76,8 @@ IsRefused bytes refusal.Utf8 at = IsFirstIllFormed bytes at
 IsRefused bytes refusal.Token at = (text : List ℕ) × IsTextOf bytes text × IsBadToken text at
 IsRefused bytes refusal.Tree at = (tokens : List Token) × IsTokenized bytes tokens × HasNoTree tokens
 IsRefused bytes refusal.Nested at = (tokens : List Token) × IsTokenized bytes tokens × IsNested tokens
-IsRefused bytes refusal.NotBuilt at = (tree : Tree) × IsParsed bytes tree × IsNotBuilt tree × (at ≡ 0)
+IsRefused bytes refusal.Early at = (tree : Tree) × IsParsed bytes tree × HasEarlyError tree at
+IsRefused bytes refusal.NotBuilt at = (tree : Tree) × IsSound bytes tree × IsNotBuilt tree × (at ≡ 0)
 
 -- A file of more than 100 tokens that spell no tree may be refused for want of a tree and as nested too deep.
 pub record IsEither (bytes : List ℕ) : Type 0 where

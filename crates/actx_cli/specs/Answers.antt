@@ -4,7 +4,7 @@ use Rattle.std.specs.Fmt.{decimal}
 use Rattle.actx_cli.specs.declared.answer.Answer.{Answer}
 use Rattle.actx_cli.specs.declared.answer.Answer.TheVariants.{Finished, Usage, CannotRead, TooLong, Refused, WriteFault, Memory}
 use Rattle.actx_cli.specs.declared.answer.Refusal.{Refusal}
-use Rattle.actx_cli.specs.declared.answer.Refusal.TheVariants.{Utf8, Token, Tree, Nested, NotBuilt}
+use Rattle.actx_cli.specs.declared.answer.Refusal.TheVariants.{Utf8, Token, Tree, Nested, Early, NotBuilt}
 
 abbrev pub status_of : Answer → ℕ
 status_of Finished = 0
@@ -25,6 +25,7 @@ word_of Utf8 = codes "utf8"
 word_of Token = codes "token"
 word_of Tree = codes "tree"
 word_of Nested = codes "nested"
+word_of Early = codes "early"
 word_of NotBuilt = codes "notbuilt"
 
 -- the line of a refusal up to its place

@@ -7,7 +7,7 @@ use Rattle.actx_cli.specs.Calls.{Change}
 use Rattle.actx_tree.specs.declared.tree.Tree.{Tree}
 use Rattle.actx_printing.specs.declared.lit.Lit.{Lit}
 use Rattle.actx_printing.specs.Printing.{Prints}
-use Rattle.actx_cli.specs.Accepted.{longest, IsParsed, IsRefused}
+use Rattle.actx_cli.specs.Accepted.{longest, IsSound, IsRefused}
 use Rattle.actx_cli.specs.Runs.{NoneFailed}
 
 -- why there are no bytes of this file
@@ -17,10 +17,10 @@ SourceFails shelf file TooLong = (bytes : List ℕ) × IsFetched shelf.old.files
 SourceFails shelf file (Memory steps) = (steps ≡ 0) × NoneFailed shelf
 SourceFails shelf file answer = ⊥
 
--- the bytes are those of a tree with the printing statements of these literals
+-- the bytes are those of a tree without early errors, with the printing statements of these literals
 pub record IsPrinting (bytes : List ℕ) (literals : List (List Lit)) : Type 0 where
   pub tree : Tree
-  pub parsed : IsParsed bytes tree
+  pub is_sound : IsSound bytes tree
   pub prints : Prints tree literals
 
 -- why these bytes print nothing

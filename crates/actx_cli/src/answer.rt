@@ -12,6 +12,9 @@ pub enum Refusal {
     /// The tokens spell no tree in which each node has at most 200 nodes around it, and there are more
     /// than 100 of them. The place is about where reading stopped.
     Nested,
+    /// The file has an early error (ECMA-262 §17.1). The place is the number of the node with the first
+    /// one: nodes are counted in source order, an outer one before an inner one, from 0.
+    Early,
     /// The file needs more of the language than is built. The place is 0.
     NotBuilt,
 }

@@ -3,13 +3,14 @@
 ghost use Rattle.std.specs.Prelude.{◌≤◌, length, MatchResult};
 ghost use Rattle.std.specs.List.{flat_map};
 ghost use Rattle.actx_printing.specs.Printing.{literals};
-ghost use Rattle.actx_cli.specs.Accepted.{longest, IsAccepted, IsParsed, IsTokenized};
+ghost use Rattle.actx_cli.specs.Accepted.{longest, IsAccepted, IsParsed, IsSound, IsTokenized};
 ghost use Rattle.actx_cli.specs.Phases.{IsPrinting, ReadingFails};
 
 use crate::answer::{Answer, Refusal};
 use crate::pieces::pieces;
 use actx_lex::{LexError, Token, tokens};
 use actx_parse::{FirstError, Lit, ParseError, printing, program};
+use actx_scope::{ScopeError, check};
 use actx_text::{TextError, from_utf8};
 use actx_tree::Tree;
 use std::alloc::Global;
@@ -57,11 +58,26 @@ fn tree_of(alloc: Global, bytes: &[u8]) -> Result<Tree, Answer>
     }
 }
 
+// The tree of the bytes, where it has no early error.
+fn sound_tree_of(alloc: Global, bytes: &[u8]) -> Result<Tree, Answer>
+    ensures { MatchResult result (λ tree. IsSound bytes.now tree) (ReadingFails bytes.now) }
+{
+    let tree = tree_of(alloc, bytes)?;
+    match check(alloc, &tree) {
+        Ok(_) => Ok(tree),
+        Err(ScopeError::Early { at, .. }) => Err(Answer::Refused {
+            kind: Refusal::Early,
+            at,
+        }),
+        Err(ScopeError::Memory) => Err(Answer::Memory { steps: 0 }),
+    }
+}
+
 // The literals of each statement of the bytes.
 fn literals_of(alloc: Global, bytes: &[u8]) -> Result<Vec<Vec<Lit>>, Answer>
     ensures { MatchResult result (λ all. IsPrinting bytes.now (literals all)) (ReadingFails bytes.now) }
 {
-    let tree = tree_of(alloc, bytes)?;
+    let tree = sound_tree_of(alloc, bytes)?;
     match printing(alloc, &tree) {
         Ok(all) => Ok(all),
         Err(FirstError::NotBuilt) => Err(Answer::Refused {

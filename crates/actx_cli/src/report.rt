@@ -20,6 +20,7 @@ fn refused_front(kind: Refusal) -> &'static [u8]
         Refusal::Token => b"actx: refused token at ",
         Refusal::Tree => b"actx: refused tree at ",
         Refusal::Nested => b"actx: refused nested at ",
+        Refusal::Early => b"actx: refused early at ",
         Refusal::NotBuilt => b"actx: refused notbuilt at ",
     }
 }

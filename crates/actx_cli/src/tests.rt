@@ -137,6 +137,10 @@ fn files_that_are_refused(rt: HostRuntime) -> Result<(), Fail> {
         (b"console.log", b"actx: refused notbuilt at 0\n"),
         (b"console.log(1 + 1);", b"actx: refused notbuilt at 0\n"),
         (b"let a;", b"actx: refused notbuilt at 0\n"),
+        (b"let a; let a;", b"actx: refused early at 1\n"),
+        (b"console.log(nope);", b"actx: refused early at 3\n"),
+        (b"const a = 1; a = 2;", b"actx: refused early at 4\n"),
+        (b"break;", b"actx: refused early at 0\n"),
     ] {
         check(&rt, &Case { file, ..RUN }, 65, b"", err)?;
     }
@@ -155,20 +159,22 @@ fn a_file_that_is_nested_too_deep(rt: HostRuntime) -> Result<(), Fail> {
     check(&rt, &Case { file: &text, ..RUN }, 65, b"", line)
 }
 
-// The kind of refusal that a line tells, by its place here; 4 for no line.
+// The kind of refusal that a line tells, by its place here: 4 for any other, and 5 for no line.
 fn kind_of(line: &[u8]) -> usize
-    ensures { result < 5 }
+    ensures { result < 6 }
 {
     if line.is_empty() {
-        4
+        5
     } else if line.starts_with(b"actx: refused utf8 at ") {
         0
     } else if line.starts_with(b"actx: refused token at ") {
         1
     } else if line.starts_with(b"actx: refused tree at ") {
         2
-    } else {
+    } else if line.starts_with(b"actx: refused early at ") {
         3
+    } else {
+        4
     }
 }
 
@@ -176,15 +182,15 @@ fn kind_of(line: &[u8]) -> usize
 #[test]
 fn a_file_that_is_cut(rt: HostRuntime) -> Result<(), Fail> {
     let file = "console.log('é', 1)\nconsole.log(`${[a => { b }]}`, /* c */ '😀')".as_bytes();
-    let mut seen = [false; 5];
+    let mut seen = [false; 6];
     for place in 0..file.len() {
         let file = &file[..place];
         let answer = call(rt.alloc(), &Case { file, ..RUN })?;
         let kind = kind_of(&answer.err);
         seen[kind] = true;
-        assert_eq!(rt; answer.status, if kind == 4 { 0 } else { 65 });
+        assert_eq!(rt; answer.status, if kind == 5 { 0 } else { 65 });
     }
-    assert_eq!(rt; seen, [true, true, true, true, true]);
+    assert_eq!(rt; seen, [true, true, true, true, true, true]);
     Ok(())
 }
 

@@ -17,11 +17,12 @@ KIB = 1 << 10
 PRINTING = b"console.log('row', 12345);\n"
 
 # Names, numbers, texts, templates, comments and many signs: tokens of every kind in functions, and no printing statement.
-MIXED = """const handle = async (request, { id = 0x, name }) => { // one request
+NAMES = 'let total = 0, items = [], k = 0, left = 0, right = 0, größe;\n'.encode()
+MIXED = """{ const handle = async (request, { id = 0x, name }) => { // one request
   if (request?.tries >= 10 && !request.done || id !== 7) return `${name}: ${id + 1} of ${"all"}`;
   /* a comment
      of two lines */ total += items[k] * 3 - (left - right) % 12; größe = '\\u0041\\n';
-};
+}; }
 """.replace('0x', '0').encode()
 
 
@@ -35,48 +36,62 @@ def between(front, piece, back):
     return lambda size: front + piece * (size // len(piece)) + back
 
 
+def numbered(front, piece, back):
+    """The same, with the number of each piece, from 1, for `N` in it, and the number before it for `M`."""
+    def make(size):
+        pieces, length, i = [], 0, 0
+        while length < size:
+            i += 1
+            pieces.append(piece.replace(b'N', b'%d' % i).replace(b'M', b'%d' % (i - 1)))
+            length += len(pieces[-1])
+        return front + b''.join(pieces) + back
+    return make
+
+
 def functions(size):
     """Functions in functions, 190 deep, again and again up to a size."""
-    one = b'function f() {' * 190 + b'}' * 190 + b'\n'
+    one = b'{ ' + b'function f() {' * 190 + b'}' * 190 + b' }\n'
     return one * (size // len(one))
 
 
-# What `actx` reads whole, and then refuses as not built. A file of 500 KiB has 100,000 of the pairs of brackets, one of
-# 200 KiB 100,000 of the parameters.
+# What `actx` reads whole, looks through for early errors, and then refuses: the last word is that of the refusal. A file
+# of 500 KiB has 100,000 of the pairs of brackets, one of 1,024 KiB some 60,000 names.
 TREES = [
-    ('mixed code', repeated(MIXED), 1024),
-    ('pairs of brackets', repeated(b'(a);\n'), 500),
-    ('brackets in one chain', between(b'a = b', b' + (c)', b';'), 500),
-    ('parameters of one arrow', between(b'x = (', b'a,', b') => 0;'), 200),
-    ('arrows, each in the other', repeated(b'(a, b) => (c) => ((d)) => e;\n'), 500),
-    ('suffixes of one place', between(b'a', b'.b', b' = 1;'), 500),
-    ('functions in functions', functions, 500),
-    ('semicolons', repeated(b';'), 1000),
+    ('mixed code', between(NAMES, MIXED, b''), 1024, 'notbuilt'),
+    ('pairs of brackets', between(b'let a;\n', b'(a);\n', b''), 500, 'notbuilt'),
+    ('brackets in one chain', between(b'let a, b, c; a = b', b' + (c)', b';'), 500, 'notbuilt'),
+    ('parameters of one arrow', numbered(b'let x = (', b'pN,', b') => 0;'), 500, 'notbuilt'),
+    ('suffixes of one place', between(b'let a; a', b'.b', b' = 1;'), 500, 'notbuilt'),
+    ('functions in functions', functions, 500, 'notbuilt'),
+    ('semicolons', repeated(b';'), 1000, 'notbuilt'),
+    ('names in one scope', numbered(b'let n0;\n', b'let nN = nM;\n', b''), 1024, 'notbuilt'),
+    ('functions in one scope', numbered(b'let f0;\n', b'function fN() { return fM; }\n', b''), 1024, 'notbuilt'),
+    ('a name twice at the end', numbered(b'let n0;\n', b'let nN = nM;\n', b'let n0;\n'), 1024, 'early'),
 ]
 
 
-def once(program, folder, expected):
-    """The time of one run in seconds, and its peak of memory in KiB."""
+def once(program, folder, expected, word):
+    """The time of one run in seconds, and its peak of memory in KiB. A refusal says this word."""
     with open(os.path.join(folder, 'out'), 'wb') as out:
         start = time.perf_counter()
         child = subprocess.Popen([program, 'run', 'f.js'], cwd=folder, stdout=out, stderr=subprocess.PIPE)
         _, status, used = os.wait4(child.pid, 0)
         took = time.perf_counter() - start
     line, status = child.stderr.read().decode(), os.waitstatus_to_exitcode(status)
-    if status != expected:
+    if status != expected or word and not line.startswith(f'actx: refused {word} at '):
         sys.exit(f'status {status}, expected {expected}: {line}')
     return took, used.ru_maxrss
 
 
-def measure(program, name, make, sizes, expected):
-    """One line: `make(size)` is the file that is run, and `expected` the status."""
+def measure(program, name, make, sizes, expected, word=''):
+    """One line: `make(size)` is the file that is run, `expected` the status, and `word` that of a refusal."""
     best = []
     with tempfile.TemporaryDirectory() as folder:
         for size in sizes:
             content = make(size)
             with open(os.path.join(folder, 'f.js'), 'wb') as file:
                 file.write(content)
-            runs = [once(program, folder, expected) for _ in range(5)]
+            runs = [once(program, folder, expected, word) for _ in range(5)]
             best.append((len(content), min(t for t, _ in runs), max(m for _, m in runs)))
     (small, early, _), (large, late, memory) = best
     ratio = (late / large) / (early / small)
@@ -122,8 +137,8 @@ def main():
     if not os.path.exists(program):
         sys.exit('no program: run bin/actx once')
     measure(program, 'printing statements', repeated(PRINTING), (512 * KIB, 1024 * KIB), 0)
-    for name, make, size in TREES:
-        measure(program, name, make, (size // 4 * KIB, size * KIB), 65)
+    for name, make, size, word in TREES:
+        measure(program, name, make, (size // 4 * KIB, size * KIB), 65, word)
     beside = os.path.join(TOP, 'crates/cells_speed/out/cells_speed')
     if os.path.exists(beside):
         cells(beside, 10_000_000)

@@ -40,7 +40,7 @@ def numbered(front, piece, back):
     """The same, with the number of each piece, from 1, for `N` in it, and the number before it for `M`."""
     def make(size):
         pieces, length, i = [], 0, 0
-        while length < size:
+        while length < size - len(front) - len(back) - 64:
             i += 1
             pieces.append(piece.replace(b'N', b'%d' % i).replace(b'M', b'%d' % (i - 1)))
             length += len(pieces[-1])
@@ -60,7 +60,7 @@ TREES = [
     ('mixed code', between(NAMES, MIXED, b''), 1024, 'notbuilt'),
     ('pairs of brackets', between(b'let a;\n', b'(a);\n', b''), 500, 'notbuilt'),
     ('brackets in one chain', between(b'let a, b, c; a = b', b' + (c)', b';'), 500, 'notbuilt'),
-    ('parameters of one arrow', numbered(b'let x = (', b'pN,', b') => 0;'), 500, 'notbuilt'),
+    ('parameters of one arrow', numbered(b'let x = (', b'pN, ', b'p0) => 0;'), 500, 'notbuilt'),
     ('suffixes of one place', between(b'let a; a', b'.b', b' = 1;'), 500, 'notbuilt'),
     ('functions in functions', functions, 500, 'notbuilt'),
     ('semicolons', repeated(b';'), 1000, 'notbuilt'),

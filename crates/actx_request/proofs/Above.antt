@@ -1,13 +1,13 @@
 -- When a count goes above its limit.
-use Rattle.std.proofs.Common.{◌≡◌, ℕ, suc, ◌+◌, ◌<◌, ◌≤◌, Bool, true, false, cond, ◌&&◌, List, [], ◌∷◌, ◌++◌, length, Option, Some, None, refl, sym, ap, ◌∙◌, arith}
+use Rattle.std.proofs.Common.{◌≡◌, ℕ, ◌<◌, ◌≤◌, Bool, true, false, cond, length, Option, Some, None, refl, arith}
 use Rattle.std.proofs.lemmas.Bool.Decides.{nat_tests}
 use Rattle.actx_value.specs.Texts.{TextStore, units_of}
 use Rattle.actx_value.specs.declared.end.Which.{Which}
-use Rattle.actx_value.specs.declared.end.Which.TheVariants.{Objects, Properties, Cells, Text}
+use Rattle.actx_value.specs.declared.end.Which.TheVariants.{Properties, Cells, Text}
 use Rattle.actx_cells.specs.Scopes.{ScopeStore, count_of}
 use Rattle.actx_objects.specs.Objects.{ObjectStore, property_count}
 use Rattle.actx_request.specs.Outcomes.{Stores, stores}
-use Rattle.actx_request.specs.Limits.{goes_above, objects_above, properties_above, cells_above, text_above, first_above}
+use Rattle.actx_request.specs.Limits.{goes_above, properties_above, cells_above, text_above, first_above}
 
 -- a count that stays doesn't go above its limit
 pub stays : (limit n : ℕ) → goes_above limit n n ≡ false

@@ -1,5 +1,5 @@
 -- What a copy gives.
-use Rattle.std.proofs.Common.{◌≡◌, ℕ, suc, cond, Bool, true, false, List, [], ◌∷◌, length, Option, Some, None, refl, sym, ap, ◌∙◌, subst}
+use Rattle.std.proofs.Common.{◌≡◌, ℕ, suc, cond, Bool, true, false, List, [], ◌∷◌, length, Some, None, refl, sym, subst}
 use Rattle.actx_value.specs.Texts.{TextStore, units_of}
 use Rattle.actx_value.specs.declared.ids.ObjId.{ObjId}
 use Rattle.actx_value.specs.declared.value.Key.{Key}
@@ -9,15 +9,14 @@ use Rattle.actx_value.specs.declared.value.Value.TheVariants.{Undefined, Text as
 use Rattle.actx_value.specs.declared.value.Answer.TheVariants.{Go}
 use Rattle.actx_value.specs.declared.end.Which.{Which}
 use Rattle.actx_value.specs.declared.end.Which.TheVariants.{Properties, Text}
-use Rattle.actx_cells.specs.Scopes.{ScopeStore}
 use Rattle.actx_objects.specs.Objects.{ObjectStore}
 use Rattle.actx_request.specs.declared.given.Given.{Given}
 use Rattle.actx_request.specs.declared.given.Given.TheVariants.{Answer, Limit}
-use Rattle.actx_request.specs.Outcomes.{stores, gives}
-use Rattle.actx_request.specs.Limits.{properties_above, text_above, first_above, within, IsMet, MeetsObjects}
+use Rattle.actx_request.specs.Outcomes.{stores}
+use Rattle.actx_request.specs.Limits.{properties_above, text_above, IsMet, MeetsObjects}
 use Rattle.actx_request.specs.Copies.{with_pairs_at, with_units, numbered, copy_pairs, copy_units}
 use Rattle.actx_request.specs.Puts.{first_key, first_index, IsOpened, IsShut, with_units_at, units_above}
-use Rattle.actx_request.proofs.Above.{stays, none_above}
+use Rattle.actx_request.proofs.Above.{stays}
 use Rattle.actx_request.proofs.OpenLemmas.{copy_done, copy_stopped}
 
 module _ (o : ObjId) (s t : ObjectStore) (texts : TextStore) (k : Key) (opened : IsOpened texts.texts o k s t) where

@@ -1,5 +1,5 @@
 -- An array that is filled with values.
-use Rattle.std.proofs.Common.{◌≡◌, ℕ, zero, suc, ◌+◌, ◌<◌, ◌≤◌, cond, Bool, true, false, ◌&&◌, nat_eq, nat_le, is_none, List, [], ◌∷◌, ◌++◌, length, get_or, set, slice_set, Option, Some, None, option_and_then, refl, sym, ap, ◌∙◌, arith, length-append}
+use Rattle.std.proofs.Common.{◌≡◌, ℕ, suc, ◌+◌, ◌<◌, ◌≤◌, cond, Bool, true, false, ◌&&◌, nat_eq, nat_le, is_none, List, [], ◌∷◌, ◌++◌, length, slice_set, Option, Some, None, option_and_then, refl, sym, ap, ◌∙◌, arith, length-append}
 use Rattle.std.proofs.lemmas.List.{set-get_or}
 use Rattle.std.proofs.lemmas.Option.{get_or_from_slice_get}
 use Rattle.std.proofs.lemmas.Bool.Decides.{nat_tests}
@@ -8,7 +8,6 @@ use Rattle.actx_value.specs.declared.ids.ObjId.{ObjId}
 use Rattle.actx_value.specs.declared.value.Key.{Key}
 use Rattle.actx_value.specs.declared.value.Key.TheVariants.{Index}
 use Rattle.actx_value.specs.declared.value.Value.{Value}
-use Rattle.actx_objects.specs.declared.kind.Kind.{Kind}
 use Rattle.actx_objects.specs.declared.kind.Kind.TheVariants.{Plain}
 use Rattle.actx_objects.specs.declared.object.Object.{Object}
 use Rattle.actx_objects.specs.declared.props.Prop.{Prop}

@@ -4,7 +4,6 @@ mod Resets
 mod WriteLemmas
 mod WriteOutcomes
 mod FillLemmas
-mod MakeLemmas
 mod PairLemmas
 mod UnitLemmas
 mod OpenLemmas

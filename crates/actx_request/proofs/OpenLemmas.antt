@@ -1,5 +1,5 @@
 -- The first write of a copy.
-use Rattle.std.proofs.Common.{◌≡◌, ℕ, zero, suc, ◌+◌, ◌<◌, ◌≤◌, cond, Bool, true, false, not, ◌&&◌, nat_eq, nat_lt, is_some, List, [], ◌∷◌, length, Option, Some, None, refl, sym, ap, ◌∙◌, subst, arith}
+use Rattle.std.proofs.Common.{◌≡◌, ℕ, ◌+◌, ◌≤◌, cond, Bool, true, false, ◌&&◌, is_some, List, [], ◌∷◌, length, Option, Some, None, refl, sym, ap, ◌∙◌, subst, arith}
 use Rattle.std.proofs.lemmas.Bool.Decides.{nat_tests}
 use Rattle.std.specs.Option.{option_map_or}
 use Rattle.actx_value.specs.Texts.{TextStore}
@@ -18,20 +18,20 @@ use Rattle.actx_objects.specs.declared.object.Object.{Object}
 use Rattle.actx_objects.specs.declared.props.Prop.{Prop}
 use Rattle.actx_objects.specs.declared.kind.Kind.TheVariants.{Plain}
 use Rattle.actx_objects.specs.declared.refusal.SetError.{SetError}
-use Rattle.actx_objects.specs.declared.refusal.SetError.TheVariants.{Frozen, Gap, ArrayProperty, Full, Memory}
+use Rattle.actx_objects.specs.declared.refusal.SetError.TheVariants.{Frozen, Gap, ArrayProperty, Full}
 use Rattle.actx_objects.specs.Keys.{key_eq, normal_key, is_length}
 use Rattle.actx_objects.specs.Kinds.{is_array}
 use Rattle.actx_objects.specs.Pairs.{at_key, with_key}
 use Rattle.actx_objects.specs.Properties.{with_value, mark_of}
-use Rattle.actx_objects.specs.Objects.{ObjectStore, property_count, object_at, kind_of, is_frozen, width_of, changed}
+use Rattle.actx_objects.specs.Objects.{ObjectStore, property_count, object_at, kind_of, is_frozen, width_of}
 use Rattle.actx_objects.specs.Writes.{array_refusal, earlier, is_full_for, refusal_of, with_property, cut_to, length_in, written}
 use Rattle.actx_request.specs.declared.given.Given.{Given}
 use Rattle.actx_request.specs.declared.given.Given.TheVariants.{Answer, Throw, OutOfProfile, Limit}
-use Rattle.actx_request.specs.Outcomes.{Stores, Outcome, stores, gives, throws, leaves_profile}
-use Rattle.actx_request.specs.Limits.{goes_above, properties_above, objects_above, cells_above, text_above, first_above, within, IsMet, MeetsObjects}
+use Rattle.actx_request.specs.Outcomes.{Stores, stores, gives, throws, leaves_profile}
+use Rattle.actx_request.specs.Limits.{goes_above, properties_above, objects_above, text_above, first_above, within, IsMet}
 use Rattle.actx_request.specs.Copies.{Source, with_pairs, with_pairs_at, copied_to, copy_some}
 use Rattle.actx_request.specs.Puts.{IsOpened, IsShut}
-use Rattle.actx_request.proofs.Above.{kept, rises, stays}
+use Rattle.actx_request.proofs.Above.{kept, stays}
 use Rattle.actx_request.proofs.Resets.{reset, with_props, changed_is_reset, changed-reset, object-reset, count-reset}
 use Rattle.actx_request.proofs.WriteLemmas.{length-with_key, length-changed, written_fits, written_above, refused_full, not_refused, thawed_is_there}
 use Rattle.actx_request.proofs.PairLemmas.{chain, over, pairs_grow}

@@ -1,5 +1,5 @@
 -- An object that gets what is copied.
-use Rattle.std.proofs.Common.{◌≡◌, ℕ, zero, suc, ◌+◌, ◌<◌, ◌≤◌, cond, Bool, true, false, not, ◌&&◌, nat_lt, is_some, List, [], ◌∷◌, ◌++◌, length, map, slice_set, Option, Some, None, refl, sym, ap, ◌∙◌, arith}
+use Rattle.std.proofs.Common.{◌≡◌, ℕ, ◌+◌, ◌<◌, ◌≤◌, cond, Bool, true, false, ◌&&◌, is_some, List, [], ◌∷◌, ◌++◌, length, slice_set, Option, Some, None, refl, sym, ap, ◌∙◌, arith}
 use Rattle.std.proofs.lemmas.Bool.Decides.{nat_tests}
 use Rattle.std.proofs.lemmas.List.{set-get_or}
 use Rattle.std.proofs.lemmas.Option.{get_or_from_slice_get}
@@ -14,9 +14,9 @@ use Rattle.actx_objects.specs.declared.refusal.SetError.{SetError}
 use Rattle.actx_objects.specs.declared.refusal.SetError.TheVariants.{Frozen, Full}
 use Rattle.actx_objects.specs.Keys.{key_eq, normal_key, is_length}
 use Rattle.actx_objects.specs.Kinds.{is_array}
-use Rattle.actx_objects.specs.Pairs.{at_key, with_key}
+use Rattle.actx_objects.specs.Pairs.{at_key}
 use Rattle.actx_objects.specs.Properties.{with_value, mark_of}
-use Rattle.actx_objects.specs.Objects.{ObjectStore, property_count, object_at, kind_of, is_frozen, width_of, is_array_length, changed}
+use Rattle.actx_objects.specs.Objects.{ObjectStore, property_count, object_at, kind_of, is_frozen, width_of, changed}
 use Rattle.actx_objects.specs.Writes.{array_refusal, earlier, is_full_for, refusal_of, with_property, cut_to, length_in, written}
 use Rattle.actx_request.specs.Limits.{goes_above, properties_above}
 use Rattle.actx_request.specs.Copies.{with_pairs, with_pairs_at}

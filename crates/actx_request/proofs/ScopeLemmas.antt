@@ -1,19 +1,17 @@
 -- How many scopes and cells there are after a cell is written.
-use Rattle.std.proofs.Common.{◌≡◌, ℕ, zero, suc, ◌+◌, ◌<◌, ◌≤◌, Bool, true, false, cond, List, [], ◌∷◌, ◌++◌, length, replicate, get_or, slice_get, slice_set, Option, Some, None, option_and_then, refl, sym, ap, ◌∙◌, arith}
+use Rattle.std.proofs.Common.{◌≡◌, ℕ, suc, false, List, length, get_or, slice_get, slice_set, Option, Some, None, refl, sym, ap, ◌∙◌, arith}
 use Rattle.std.proofs.Math.ListN.{length-set}
 use Rattle.std.proofs.lemmas.Option.{get_or_from_slice_get, slice_get_within}
 use Rattle.std.proofs.lemmas.List.Sums.{sum_by-set}
 use Rattle.std.specs.Option.{option_map_or}
-use Rattle.actx_value.specs.Texts.{TextStore}
 use Rattle.actx_value.specs.declared.ids.ScopeId.{ScopeId}
 use Rattle.actx_value.specs.declared.value.Value.{Value}
 use Rattle.actx_value.specs.declared.value.Value.TheVariants as values
 use Rattle.actx_value.specs.declared.value.Answer.TheVariants.{Go}
 use Rattle.actx_cells.specs.Scopes.{Scope, ScopeStore, count_of, parents_of, outer_of, with_cell, with_value_at}
-use Rattle.actx_objects.specs.Objects.{ObjectStore}
 use Rattle.actx_request.specs.declared.given.Given.TheVariants.{Answer}
 use Rattle.actx_request.specs.Outcomes.{stores}
-use Rattle.actx_request.specs.Limits.{Meets, MeetsCells, within, first_above}
+use Rattle.actx_request.specs.Limits.{MeetsCells, within, first_above}
 use Rattle.actx_request.specs.Scopes.{init_at}
 use Rattle.actx_request.proofs.Above.{cells_alone, kept}
 

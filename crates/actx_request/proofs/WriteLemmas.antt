@@ -1,8 +1,8 @@
 -- Counts of properties after a write or the end of a property.
-use Rattle.std.proofs.Common.{◌≡◌, ℕ, zero, suc, ◌+◌, ◌<◌, ◌≤◌, min, cond, Bool, true, false, not, ◌&&◌, nat_le, nat_lt, is_some, is_none, List, [], ◌∷◌, length, slice_set, take, length-take, Option, Some, None, option_and_then, refl, sym, ap, ◌∙◌, arith}
+use Rattle.std.proofs.Common.{◌≡◌, ℕ, suc, ◌+◌, ◌≤◌, min, cond, Bool, true, false, not, ◌&&◌, nat_le, nat_lt, is_some, is_none, List, [], ◌∷◌, length, slice_set, take, length-take, Option, Some, None, option_and_then, refl, sym, ap, ◌∙◌, arith}
 use Rattle.std.proofs.Math.ListN.{length-set}
 use Rattle.std.proofs.lemmas.Bool.Decides.{nat_tests}
-use Rattle.std.specs.Option.{option_map, option_map_or}
+use Rattle.std.specs.Option.{option_map_or}
 use Rattle.std.specs.declared.result.Result.TheVariants.{Err}
 use Rattle.actx_value.specs.declared.ids.ObjId.{ObjId}
 use Rattle.actx_value.specs.declared.value.Key.{Key}
@@ -18,9 +18,9 @@ use Rattle.actx_objects.specs.Pairs.{at_key, with_key, without_key}
 use Rattle.actx_objects.specs.Properties.{with_value, mark_of}
 use Rattle.actx_objects.specs.Objects.{ObjectStore, property_count, object_at, kind_of, is_frozen, width_of, is_array_length, prop_of, changed}
 use Rattle.actx_objects.specs.Writes.{array_refusal, reaches, length_in, earlier, has_no_room, is_full_for, refusal_of, IsRefusedBy, cut, cut_to, with_property, written, has_own, removed, deleted}
-use Rattle.actx_request.specs.Limits.{goes_above, properties_above}
+use Rattle.actx_request.specs.Limits.{properties_above}
 use Rattle.actx_request.proofs.Above.{kept, fits, rises, stays}
-use Rattle.actx_request.proofs.Resets.{changed_there, reset, changed_is_reset, count-reset, length-reset}
+use Rattle.actx_request.proofs.Resets.{reset, changed_is_reset, count-reset}
 
 module _ {K X : Type 0} (eq : K → K → Bool) (k : K) where
   -- a write adds one where nothing stands at the key

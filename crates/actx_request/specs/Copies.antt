@@ -6,7 +6,7 @@ use Rattle.actx_value.specs.declared.ids.ObjId.{ObjId}
 use Rattle.actx_value.specs.declared.value.Key.{Key}
 use Rattle.actx_value.specs.declared.value.Key.TheVariants.{Index}
 use Rattle.actx_value.specs.declared.value.Value.{Value}
-use Rattle.actx_value.specs.declared.value.Value.TheVariants.{Undefined, Null, Bool as Truth, Num, Text, Object, Scope, Mark}
+use Rattle.actx_value.specs.declared.value.Value.TheVariants.{Undefined, Null, Text, Object, Scope, Mark}
 use Rattle.actx_value.specs.declared.error_kind.ErrorKind.TheVariants.{TypeError}
 use Rattle.actx_value.specs.declared.end.Reason.TheVariants.{ArrayProperty}
 use Rattle.actx_ops.specs.Conversions.{key_of_value}

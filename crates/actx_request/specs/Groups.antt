@@ -1,7 +1,7 @@
 -- Plain requests by what they touch.
 use Rattle.std.specs.Prelude.{Bool, true, false}
 use Rattle.actx_value.specs.declared.request.Request.{Request}
-use Rattle.actx_value.specs.declared.request.Request.TheVariants.{Tick, Scope, Fork, Init, Load, Store, Unary, Binary, ToText, ToKey, Object, Array, Get, Set, Delete, Define, DefineMethod, Copy, Rest, SuperGet, Arg, ArgsFrom}
+use Rattle.actx_value.specs.declared.request.Request.TheVariants.{Scope, Fork, Init, Load, Store, Unary, Binary, ToText, ToKey, Object, Array, Get, Set, Delete, Define, DefineMethod, Copy, Rest, SuperGet, Arg, ArgsFrom}
 
 -- scopes and cells alone
 abbrev pub asks_scopes : Request → Bool

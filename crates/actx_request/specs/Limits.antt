@@ -6,7 +6,7 @@ use Rattle.actx_value.specs.declared.end.Which.TheVariants.{Objects, Properties,
 use Rattle.actx_cells.specs.Scopes.{ScopeStore, count_of}
 use Rattle.actx_objects.specs.Objects.{ObjectStore, property_count}
 use Rattle.actx_request.specs.declared.given.Given.{Given}
-use Rattle.actx_request.specs.declared.given.Given.TheVariants.{Answer, Throw, OutOfProfile, Limit}
+use Rattle.actx_request.specs.declared.given.Given.TheVariants.{Answer, Throw, Limit}
 use Rattle.actx_request.specs.Outcomes.{Stores, Outcome, stores}
 
 -- whether a count goes above its limit

@@ -1,6 +1,5 @@
 -- Requests that read a property.
 use Rattle.std.specs.Prelude.{ℕ, ◌&&◌, Bool, pos, List, [], ◌∷◌, length, slice_get, Option, Some, None, unwrap_or, if◌then◌else◌}
-use Rattle.std.specs.Option.{option_map_or}
 use Rattle.actx_value.specs.Texts.{text_at}
 use Rattle.actx_value.specs.declared.ids.ObjId.{ObjId}
 use Rattle.actx_value.specs.declared.ids.TextId.{TextId}

@@ -1,5 +1,5 @@
 -- Requests that write a property or end one.
-use Rattle.std.specs.Prelude.{ℕ, Bool, true, false, not, ◌&&◌, ◌||◌, ℤ, pos, negsuc, List, Option, Some, None, is_some, if◌then◌else◌}
+use Rattle.std.specs.Prelude.{ℕ, Bool, true, not, ◌&&◌, ◌||◌, ℤ, pos, negsuc, List, Option, Some, None, is_some, if◌then◌else◌}
 use Rattle.std.specs.declared.result.Result.{Result}
 use Rattle.std.specs.declared.result.Result.TheVariants.{Ok, Err}
 use Rattle.actx_value.specs.Texts.{text_at}
@@ -7,7 +7,7 @@ use Rattle.actx_value.specs.declared.ids.ObjId.{ObjId}
 use Rattle.actx_value.specs.declared.value.Key.{Key}
 use Rattle.actx_value.specs.declared.value.Key.TheVariants.{Name}
 use Rattle.actx_value.specs.declared.value.Value.{Value}
-use Rattle.actx_value.specs.declared.value.Value.TheVariants.{Undefined, Null, Bool as Truth, Num, Text, Object, Scope, Mark}
+use Rattle.actx_value.specs.declared.value.Value.TheVariants.{Undefined, Bool as Truth, Num, Text, Object}
 use Rattle.actx_value.specs.declared.operator.Op.TheVariants.{ToNumber}
 use Rattle.actx_value.specs.declared.end.Reason.{Reason}
 use Rattle.actx_value.specs.declared.end.Reason.TheVariants.{Conversion, Sparse, ArrayProperty}

@@ -1,5 +1,5 @@
-use Rattle.std.proofs.Common.{◌≡◌, ◌∙◌, sym}
-use Rattle.actx_request.specs.Puts.{IsOpened, IsShut}
+use Rattle.std.proofs.Common.{◌∙◌, sym}
+use Rattle.actx_request.specs.Puts.{IsOpened}
 use Rattle.actx_request.proofs.UnitLemmas.{not_true, not_false}
 use Rattle.actx_request.proofs.OpenLemmas.{opened_plain, opened_thawed}
 use Rattle.actx_request.proofs.CopyOutcomes.{pairs_done, pairs_full, pairs_shut}

@@ -1,4 +1,4 @@
-use Rattle.std.proofs.Common.{◌≡◌, ◌∙◌, sym}
+use Rattle.std.proofs.Common.{◌∙◌, sym}
 use Rattle.actx_request.proofs.CopyOutcomes.{units_done, units_stopped}
 use Rattle.actx_request.proofs.copies.copy_units.Goals as goal
 

@@ -1,10 +1,8 @@
-use Rattle.std.proofs.Common.{◌≡◌, ℕ, Bool, false, Option, Some, sym, ◌∙◌, subst, pos, length, cond}
+use Rattle.std.proofs.Common.{◌≡◌, false, Some, sym, ◌∙◌}
 use Rattle.actx_value.specs.Texts.{text_at}
 use Rattle.actx_value.specs.declared.value.Key.TheVariants.{Name}
-use Rattle.actx_value.specs.declared.value.Value.TheVariants.{Num}
-use Rattle.actx_request.specs.Outcomes.{stores, gives, gives_text}
-use Rattle.actx_request.specs.Limits.{IsMet}
-use Rattle.actx_request.specs.Members.{same_key, unit_at, unit_or_inherited}
+use Rattle.actx_request.specs.Outcomes.{stores}
+use Rattle.actx_request.specs.Members.{same_key, unit_at}
 use Rattle.actx_request.proofs.members.member_of_text.Goals as goal
 
 pub returns-in_ok-new_text-in-Some : goal.returns-in_ok-new_text-in-Some

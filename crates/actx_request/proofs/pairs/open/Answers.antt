@@ -1,6 +1,6 @@
 use Rattle.std.proofs.Common.{◌≡◌, ◌∙◌, false, sym}
 use Rattle.actx_value.specs.declared.value.Value.TheVariants.{Undefined}
-use Rattle.actx_objects.specs.declared.refusal.SetError.TheVariants.{Full, Memory}
+use Rattle.actx_objects.specs.declared.refusal.SetError.TheVariants.{Full}
 use Rattle.actx_objects.specs.Kinds.{is_array}
 use Rattle.actx_objects.specs.Objects.{kind_of}
 use Rattle.actx_objects.specs.Writes.{refusal_of}

@@ -1,9 +1,9 @@
-use Rattle.std.proofs.Common.{◌≡◌, ◌∙◌, true, false, not, List, sym, ap}
+use Rattle.std.proofs.Common.{◌≡◌, ◌∙◌, true, false, List, sym, ap}
 use Rattle.actx_value.specs.declared.value.Key.{Key}
 use Rattle.actx_value.specs.declared.value.Value.{Value}
 use Rattle.actx_objects.specs.Objects.{ObjectStore}
-use Rattle.actx_request.specs.Limits.{properties_above, text_above}
-use Rattle.actx_request.specs.Copies.{blank_pairs, with_units, with_pairs_at}
+use Rattle.actx_request.specs.Limits.{properties_above}
+use Rattle.actx_request.specs.Copies.{blank_pairs, with_pairs_at}
 use Rattle.actx_request.specs.Puts.{with_units_at}
 use Rattle.actx_request.proofs.WriteLemmas.{thawed_is_there}
 use Rattle.actx_request.proofs.UnitLemmas.{blank_above, above_by, not_true, not_false}

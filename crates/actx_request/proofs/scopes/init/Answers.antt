@@ -1,7 +1,7 @@
 use Rattle.std.proofs.Common.{◌≡◌, Option, sym, ap, ◌∙◌}
 use Rattle.std.specs.Option.{option_map_or}
 use Rattle.actx_value.specs.declared.ids.ScopeId.{ScopeId}
-use Rattle.actx_cells.specs.Scopes.{Scope, ScopeStore, with_cell, with_value_at}
+use Rattle.actx_cells.specs.Scopes.{ScopeStore, with_cell, with_value_at}
 use Rattle.actx_request.proofs.ScopeLemmas.{cell_written}
 use Rattle.actx_request.proofs.scopes.init.Goals as goal
 use Rattle.actx_request.proofs.scopes.init.Goals.{in-Some, in-None}

@@ -2,7 +2,6 @@ use Rattle.std.proofs.Common.{◌≡◌, ◌∙◌, ℕ, ◌+◌, ◌<◌, ◌�
 use Rattle.std.proofs.Math.Seq.{take-suc}
 use Rattle.std.proofs.lemmas.List.{length-take-le}
 use Rattle.actx_value.specs.Texts.{TextStore, units_of, with_text, added_number}
-use Rattle.actx_value.specs.declared.ids.TextId.{TextId}
 use Rattle.actx_value.specs.declared.value.Key.{Key}
 use Rattle.actx_value.specs.declared.value.Key.TheVariants.{Index}
 use Rattle.actx_value.specs.declared.value.Value.{Value}

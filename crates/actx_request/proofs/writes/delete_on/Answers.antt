@@ -1,4 +1,4 @@
-use Rattle.std.proofs.Common.{◌≡◌, sym}
+use Rattle.std.proofs.Common.{sym}
 use Rattle.actx_request.proofs.WriteOutcomes.{delete_done}
 use Rattle.actx_request.proofs.writes.delete_on.Goals as goal
 

@@ -1,5 +1,4 @@
-use Rattle.std.proofs.Common.{◌≡◌, sym}
-use Rattle.actx_objects.specs.declared.refusal.SetError.TheVariants.{Frozen, Full, Memory}
+use Rattle.actx_objects.specs.declared.refusal.SetError.TheVariants.{Frozen, Full}
 use Rattle.actx_objects.specs.Writes.{refusal_of}
 use Rattle.actx_request.proofs.WriteLemmas.{refusal_is}
 use Rattle.actx_request.proofs.WriteOutcomes.{write_done, write_full, write_frozen}

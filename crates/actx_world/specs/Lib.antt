@@ -1,0 +1,16 @@
+pub mod Parts
+pub mod Kept
+pub mod Setup
+pub mod State
+pub mod Moves
+pub mod Functions
+pub mod Acts
+pub mod Calls
+pub mod Walks
+pub mod Looks
+pub mod Wishes
+pub mod Rows
+pub mod Ends
+pub mod Worlds
+pub mod Rests
+pub mod Laws

@@ -1,0 +1,19 @@
+//! The laws of the definitions. Each function here does nothing: its contract is the law.
+
+ghost use Rattle.actx_want.specs.Run.{Run};
+ghost use Rattle.actx_world.specs.Rests.{Replay};
+ghost use Rattle.actx_world.specs.Laws.{BothWorldsAreSame, EventsNest};
+
+/// The world with mappings carried has the events and the state of the world with reads by the causal
+/// walk, after every number of moves, however bodies are kept.
+pub fn same_events()
+    ensures rests { BothWorldsAreSame Run }
+    ensures replays { BothWorldsAreSame Replay }
+{}
+
+/// The open brackets of the events are the closing items on the stack, and each closing event has an
+/// opener, after every number of moves.
+pub fn nesting()
+    ensures rests { EventsNest Run }
+    ensures replays { EventsNest Replay }
+{}

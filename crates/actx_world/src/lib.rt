@@ -1,0 +1,12 @@
+//! The job semantics: the state of a run, what one move is, how a run ends, and laws about its events
+//! (the execution contexts and jobs of ECMA-262 §9.4, §9.5, §10.2, §10.3, §10.4.1). There is no
+//! working code: the machine stands above, and its contracts cite these definitions.
+#![tactic(auto)]
+
+mod handed;
+mod laws;
+mod phase;
+
+pub use handed::{BodyEnd, Handed};
+pub use laws::{nesting, same_events};
+pub use phase::{LastJob, LoopPhase};

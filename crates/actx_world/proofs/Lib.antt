@@ -1,0 +1,4 @@
+pub mod Oracles
+pub mod KeptBrackets
+pub mod CallRows
+pub mod Nests

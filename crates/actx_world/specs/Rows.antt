@@ -31,30 +31,7 @@ is_empty (x ∷ xs) = false
 abbrev pub root : Resource
 root = record { trigger = 0; object = None; destroyed = false }
 
-module _ {B : Type 0} (bodies : Bodies B) (setup : Setup) where
-  -- ---- a Do
-
-  -- the main script (ScriptEvaluation, ECMA-262 §16.1.6): its resource, and body 0 in the scope of the global names
-  abbrev pub main_activation : Activation B
-  main_activation = record {
-    frame = bodies.begin (record { 0 = 0 }) setup.builtins.global;
-    arguments = [];
-    scope = setup.builtins.global;
-    end = after.Plain;
-  }
-
-  abbrev pub row_main : State B → Next B
-  row_main s =
-      On (record {
-        adds = Before (record { 0 = 1 }) ∷ Init (record { 0 = 1 }) (codes "ROOT") 0 0 ∷ [];
-        state = pushed (Body main_activation) (pushed (Close (Running (record { 0 = 1 })) false) (record s { resources = root ∷ [] }));
-      })
-
-  abbrev pub row_do : Oracle → Due → State B → Next B
-  row_do oracle Main s = row_main s
-  row_do oracle (Call callee this arguments) s = row_call bodies setup oracle Handing callee this arguments s
-  row_do oracle (Construct callee target arguments) s = row_construct bodies setup Handing callee target arguments s
-
+module _ {B : Type 0} where
   -- ---- a closing item
 
   -- a completion goes on; where no item is left, a value is dropped
@@ -83,6 +60,34 @@ module _ {B : Type 0} (bodies : Bodies B) (setup : Setup) where
   abbrev pub row_idle : State B → Next B
   row_idle s = if is_quiet s then Over ends.Finished else Unbuilt
 
+  -- the state without its top item and with an empty hand
+  abbrev pub popped : List (Item B) → State B → State B
+  popped rest s = record s { stack = rest; hand = None }
+
+module _ {B : Type 0} (bodies : Bodies B) (setup : Setup) where
+  -- ---- a Do
+
+  -- the main script (ScriptEvaluation, ECMA-262 §16.1.6): its resource, and body 0 in the scope of the global names
+  abbrev pub main_activation : Activation B
+  main_activation = record {
+    frame = bodies.begin (record { 0 = 0 }) setup.builtins.global;
+    arguments = [];
+    scope = setup.builtins.global;
+    end = after.Plain;
+  }
+
+  abbrev pub row_main : State B → Next B
+  row_main s =
+      On (record {
+        adds = Before (record { 0 = 1 }) ∷ Init (record { 0 = 1 }) (codes "ROOT") 0 0 ∷ [];
+        state = pushed (Body main_activation) (pushed (Close (Running (record { 0 = 1 })) false) (record s { resources = root ∷ [] }));
+      })
+
+  abbrev pub row_do : Oracle → Due → State B → Next B
+  row_do oracle Main s = row_main s
+  row_do oracle (Call callee this arguments) s = row_call bodies setup oracle Handing callee this arguments s
+  row_do oracle (Construct callee target arguments) s = row_construct bodies setup Handing callee target arguments s
+
   -- ---- by the top item and the hand
 
   abbrev pub row_body : Oracle → Activation B → Option Handed → State B → Next B
@@ -95,10 +100,6 @@ module _ {B : Type 0} (bodies : Bodies B) (setup : Setup) where
   row_item oracle (Reply u) h s = Unbuilt
   row_item oracle (Hooks calls held) h s = Unbuilt
   row_item oracle (Close b marked) h s = row_close b h s
-
-  -- the state without its top item and with an empty hand
-  abbrev pub popped : List (Item B) → State B → State B
-  popped rest s = record s { stack = rest; hand = None }
 
   abbrev pub next_by : Oracle → List (Item B) → Option Handed → State B → Next B
   next_by oracle [] h s = row_idle s

@@ -2,3 +2,4 @@ pub mod Oracles
 pub mod KeptBrackets
 pub mod CallRows
 pub mod Nests
+pub mod Runs

@@ -14,3 +14,5 @@ pub mod Ends
 pub mod Worlds
 pub mod Rests
 pub mod Laws
+pub mod SmallStore
+pub mod Examples

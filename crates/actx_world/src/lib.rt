@@ -3,10 +3,15 @@
 //! working code: the machine stands above, and its contracts cite these definitions.
 #![tactic(auto)]
 
+mod examples;
 mod handed;
 mod laws;
 mod phase;
 
+pub use examples::{
+    a_class_is_made, a_derived_class_is_made, a_function_is_called, a_throw_ends_the_run,
+    an_array_is_walked, an_empty_file_is_three_moves, an_error_is_caught,
+};
 pub use handed::{BodyEnd, Handed};
 pub use laws::{nesting, same_events};
 pub use phase::{LastJob, LoopPhase};

@@ -1,0 +1,40 @@
+-- The worked runs, by computation.
+use Rattle.std.proofs.Common.{refl}
+use Rattle.actx_code.specs.declared.form.Form.{Form}
+use Rattle.actx_text.specs.Utf8.{utf8_of}
+use Rattle.actx_text.specs.Utf16.{scalars_of}
+use Rattle.actx_event.specs.Walk.{met_binding}
+use Rattle.actx_want.specs.Run.{turns, loop}
+use Rattle.actx_want.specs.Lists.{listed}
+use Rattle.actx_want.specs.Members.{suffixed}
+use Rattle.actx_want.specs.Classes.{stands_on_prototype, members_of}
+use Rattle.actx_want.specs.Statements.{sequenced, declared_of}
+use Rattle.actx_world.specs.Examples.{EmptyFileRuns, ClassRuns, DerivedClassRuns, FunctionRuns, WalkRuns, CaughtRuns, ThrownRuns}
+
+pub empty_runs : (form : Form) → EmptyFileRuns form
+unfolding met_binding sequenced
+empty_runs form = record { ends = refl; events = refl; stays = refl }
+
+pub thrown_runs : (form : Form) → ThrownRuns form
+unfolding met_binding sequenced listed suffixed utf8_of scalars_of
+thrown_runs form = record { ends = refl; events = refl; text = refl }
+
+pub class_runs : (form : Form) → ClassRuns form
+unfolding met_binding sequenced listed stands_on_prototype members_of declared_of
+class_runs form = record { ends = refl; events = refl; made = record { objects = refl; properties = refl; cells = refl }; limited = refl }
+
+pub derived_runs : (form : Form) → DerivedClassRuns form
+unfolding met_binding sequenced listed stands_on_prototype members_of declared_of turns loop
+derived_runs form = record { ends = refl; made = record { objects = refl; properties = refl; cells = refl } }
+
+pub function_runs : (form : Form) → FunctionRuns form
+unfolding met_binding sequenced listed suffixed declared_of
+function_runs form = record { ends = refl; made = record { objects = refl; properties = refl; cells = refl } }
+
+pub walk_runs : (form : Form) → WalkRuns form
+unfolding met_binding sequenced listed turns loop declared_of
+walk_runs form = record { ends = refl; made = record { objects = refl; properties = refl; cells = refl } }
+
+pub caught_runs : (form : Form) → CaughtRuns form
+unfolding met_binding sequenced suffixed declared_of
+caught_runs form = record { ends = refl; made = record { objects = refl; properties = refl; cells = refl } }

@@ -1,0 +1,153 @@
+-- Worked runs of small files.
+use Rattle.std.specs.Prelude.{◌≡◌, ℕ, ◌+◌, pos, true, false, List, [], ◌∷◌, length, codes, Option, Some, None}
+use Rattle.actx_text.specs.declared.body_id.BodyId.{BodyId}
+use Rattle.actx_event.specs.declared.event.Event.{Event}
+use Rattle.actx_event.specs.declared.event.Event.TheVariants.{Init, Before, After, Print}
+use Rattle.actx_value.specs.declared.value.Value.{Value}
+use Rattle.actx_value.specs.declared.value.Value.TheVariants.{Undefined, Null, Num, Text}
+use Rattle.actx_value.specs.declared.end.End.TheVariants.{Finished, Uncaught, Limit}
+use Rattle.actx_value.specs.declared.end.Which.TheVariants.{Calls}
+use Rattle.actx_code.specs.declared.body.Body.{Body}
+use Rattle.actx_code.specs.declared.body.BodyKind.TheVariants.{File, Function, Class, DerivedClass}
+use Rattle.actx_code.specs.declared.form.Form.{Form}
+use Rattle.actx_cells.specs.Scopes.{count_of}
+use Rattle.actx_objects.specs.Objects.{property_count}
+use Rattle.actx_want.specs.Run.{Run, Meaning}
+use Rattle.actx_want.specs.Names.{name, changed_plainly}
+use Rattle.actx_want.specs.Members.{plain, change_member, member, suffixes}
+use Rattle.actx_want.specs.Lists.{single, spread, array}
+use Rattle.actx_want.specs.Calls.{call, new, super_call}
+use Rattle.actx_want.specs.Functions.{function, parameter, rest_parameter}
+use Rattle.actx_want.specs.Patterns.{slot}
+use Rattle.actx_want.specs.Classes.{class}
+use Rattle.actx_want.specs.Statements.{sequence, init, block, thrown}
+use Rattle.actx_want.specs.Loops.{of_loop}
+use Rattle.actx_want.specs.Tries.{bound, try}
+use Rattle.actx_want.specs.Examples.{literal}
+use Rattle.actx_world.specs.Setup.{Setup}
+use Rattle.actx_world.specs.State.{State}
+use Rattle.actx_world.specs.Ends.{Most, Ends}
+use Rattle.actx_world.specs.Worlds.{World, world, Last, last_of, EndedBy, printed}
+use Rattle.actx_world.specs.SmallStore.{small_stores, small_limits, small_setup, doing, body}
+
+-- a run of these bodies and of what they do
+abbrev pub run : List Body → List Meaning → ℕ → World Run
+run bodies meanings k = world (doing meanings) (small_setup bodies) small_limits small_stores k
+
+abbrev pub end_within : Most → List Body → List Meaning → ℕ → Last
+end_within most bodies meanings budget = last_of (doing meanings) (small_setup bodies) most small_stores budget
+
+-- the end of a run with a budget of 40 moves
+abbrev pub end : List Body → List Meaning → Last
+end bodies meanings = end_within small_limits bodies meanings 40
+
+-- how many objects, properties, and scopes with their cells the run made
+pub record Made (w : World Run) (o p c : ℕ) : Type 0 where
+  pub objects : length w.state.stores.objects.objects ≡ 5 + o
+  pub properties : property_count w.state.stores.objects.objects ≡ p
+  pub cells : count_of w.state.stores.cells.scopes ≡ 2 + c
+
+abbrev pub finished : ℕ → Last
+finished k = record { moves = k; ending = EndedBy (Ends Finished) }
+
+-- the events of a file that prints nothing, the newest first
+abbrev pub events_of_main : List Event
+events_of_main = After (record { 0 = 1 }) ∷ Before (record { 0 = 1 }) ∷ Init (record { 0 = 1 }) (codes "ROOT") 0 0 ∷ []
+
+abbrev pub body_number : ℕ → BodyId
+body_number n = record { 0 = n }
+
+abbrev pub text_number : ℕ → Value
+text_number n = Text (record { 0 = n })
+
+abbrev pub file : Form → Body
+file form = body form File 0 false 0
+
+-- ---- an empty file: Do, the end of its body, the end of its bracket
+
+pub record EmptyFileRuns (form : Form) : Type 0 where
+  pub ends : end (file form ∷ []) (sequence [] ∷ []) ≡ finished 3
+  pub events : (run (file form ∷ []) (sequence [] ∷ []) 3).events ≡ events_of_main
+  -- it stays as it is
+  pub stays : (run (file form ∷ []) (sequence [] ∷ []) 7).events ≡ events_of_main
+
+-- ---- class A { constructor(n) { this.n = n; } } new A(1);
+
+abbrev pub class_bodies : Form → List Body
+class_bodies form = file form ∷ body form Class 8 true 4 ∷ []
+
+abbrev pub class_meanings : List Meaning
+class_meanings =
+    block 1 [] (sequence (init 0 (class (body_number 1) None (text_number 2) []) ∷ new (name 0 0) (single (literal (Num (pos 1))) ∷ []) ∷ []))
+    ∷ sequence (parameter 0 (slot 3) ∷ change_member (name 0 0) (plain (text_number 9)) (changed_plainly (name 0 3)) ∷ [])
+    ∷ []
+
+pub record ClassRuns (form : Form) : Type 0 where
+  pub ends : end (class_bodies form) class_meanings ≡ finished 16
+  pub events : (run (class_bodies form) class_meanings 16).events ≡ events_of_main
+  pub made : Made (run (class_bodies form) class_meanings 16) 3 4 7
+  -- with a depth of two, the move that would begin the constructor is not made
+  pub limited : end_within (record small_limits { calls = 2 }) (class_bodies form) class_meanings 40 ≡ record { moves = 6; ending = EndedBy (Ends (Limit Calls)) }
+
+-- ---- class A {} class B extends A {} new B(1, 2);
+
+abbrev pub derived_bodies : Form → List Body
+derived_bodies form = file form ∷ body form Class 8 true 3 ∷ body form DerivedClass 8 true 4 ∷ []
+
+abbrev pub derived_meanings : List Meaning
+derived_meanings =
+    block 2 [] (sequence (
+      init 0 (class (body_number 1) None (text_number 2) [])
+      ∷ init 1 (class (body_number 2) (Some (name 0 0)) (text_number 2) [])
+      ∷ new (name 0 1) (single (literal (Num (pos 1))) ∷ single (literal (Num (pos 2))) ∷ [])
+      ∷ []))
+    ∷ sequence []
+    ∷ sequence (rest_parameter 0 (slot 3) ∷ super_call 0 (spread (name 0 3) ∷ []) ∷ [])
+    ∷ []
+
+pub record DerivedClassRuns (form : Form) : Type 0 where
+  pub ends : end (derived_bodies form) derived_meanings ≡ finished 30
+  pub made : Made (run (derived_bodies form) derived_meanings 30) 7 8 12
+
+-- ---- (function f(a) { let b; })();
+
+abbrev pub function_bodies : Form → List Body
+function_bodies form = file form ∷ body form Function 8 true 4 ∷ []
+
+abbrev pub function_meanings : List Meaning
+function_meanings =
+    suffixes (function (body_number 1)) (call false [] ∷ [])
+    ∷ sequence (parameter 0 (slot 3) ∷ block 1 [] (init 0 (literal Undefined)) ∷ [])
+    ∷ []
+
+pub record FunctionRuns (form : Form) : Type 0 where
+  pub ends : end (function_bodies form) function_meanings ≡ finished 12
+  pub made : Made (run (function_bodies form) function_meanings 12) 2 3 7
+
+-- ---- for (const x of [1, 2]) ;
+
+abbrev pub walk_meanings : List Meaning
+walk_meanings = of_loop 1 (slot 0) (array (single (literal (Num (pos 1))) ∷ single (literal (Num (pos 2))) ∷ [])) (literal Undefined) ∷ []
+
+pub record WalkRuns (form : Form) : Type 0 where
+  pub ends : end (file form ∷ []) walk_meanings ≡ finished 15
+  pub made : Made (run (file form ∷ []) walk_meanings 15) 2 2 4
+
+-- ---- try { null.n; } catch (e) {}
+
+abbrev pub caught_meanings : List Meaning
+caught_meanings = try (suffixes (literal Null) (member false (plain (text_number 9)) ∷ [])) (Some (bound 1 (slot 0) (sequence []))) None ∷ []
+
+pub record CaughtRuns (form : Form) : Type 0 where
+  pub ends : end (file form ∷ []) caught_meanings ≡ finished 6
+  pub made : Made (run (file form ∷ []) caught_meanings 6) 1 1 2
+
+-- ---- print('hi'); throw 7; the throw meets the end of the main script
+
+abbrev pub thrown_meanings : List Meaning
+thrown_meanings = sequence (suffixes (name 0 0) (call false (single (literal (text_number 10)) ∷ []) ∷ []) ∷ thrown (literal (Num (pos 7))) ∷ []) ∷ []
+
+pub record ThrownRuns (form : Form) : Type 0 where
+  pub ends : end (file form ∷ []) thrown_meanings ≡ record { moves = 4; ending = EndedBy (Ends (Uncaught (Num (pos 7)))) }
+  pub events : (run (file form ∷ []) thrown_meanings 4).events ≡ Print (codes "hi") ∷ Before (record { 0 = 1 }) ∷ Init (record { 0 = 1 }) (codes "ROOT") 0 0 ∷ []
+  pub text : printed (run (file form ∷ []) thrown_meanings 4).events ≡ 104 ∷ 105 ∷ 10 ∷ []

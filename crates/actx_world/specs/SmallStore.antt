@@ -1,0 +1,126 @@
+-- A small store for the examples: a few built-in objects and texts that stand in for all of them.
+use Rattle.std.specs.Prelude.{ℕ, ◌==◌, Bool, true, false, List, [], ◌∷◌, codes, slice_get, Option, Some, None, if◌then◌else◌}
+use Rattle.actx_text.specs.declared.body_id.BodyId.{BodyId}
+use Rattle.actx_tree.specs.declared.function.Flow.TheVariants as flows
+use Rattle.actx_value.specs.Texts.{text_at}
+use Rattle.actx_value.specs.declared.ids.ObjId.{ObjId}
+use Rattle.actx_value.specs.declared.ids.ScopeId.{ScopeId}
+use Rattle.actx_value.specs.declared.ids.TextId.{TextId}
+use Rattle.actx_value.specs.declared.value.Value.{Value}
+use Rattle.actx_value.specs.declared.value.Value.TheVariants.{Undefined, Null, Bool as Truth, Num, Text, Object, Scope, Mark}
+use Rattle.actx_code.specs.Codes.{Lists}
+use Rattle.actx_code.specs.declared.body.Body.{Body}
+use Rattle.actx_code.specs.declared.body.BodyKind.{BodyKind}
+use Rattle.actx_code.specs.declared.form.Form.{Form}
+use Rattle.actx_objects.specs.declared.object.Object.{Object as AnObject}
+use Rattle.actx_objects.specs.declared.kind.Kind.{Kind}
+use Rattle.actx_objects.specs.declared.kind.Kind.TheVariants as kinds
+use Rattle.actx_request.specs.Outcomes.{Stores}
+use Rattle.actx_want.specs.Run.{Run, Meaning}
+use Rattle.actx_want.specs.Bodies.{end_of}
+use Rattle.actx_want.specs.Run.{Wants, Returns}
+use Rattle.actx_world.specs.Setup.{Bodies, Called, Native, Builtins, Setup, NativeOut, Gives, Prints, NativeOutcome}
+use Rattle.actx_world.specs.Ends.{Most}
+
+-- ---- objects and texts
+
+abbrev built_in : Kind → AnObject
+built_in kind = record { kind = kind; proto = None; frozen = true; props = []; entries = record { standing = []; places = 0 } }
+
+-- the prototypes of objects, functions, arrays and errors, and a function that prints a text
+abbrev pub small_stores : Stores
+small_stores = record {
+  objects = record {
+    objects = built_in kinds.Plain ∷ built_in kinds.Plain ∷ built_in kinds.Plain ∷ built_in kinds.Plain ∷ built_in kinds.Native ∷ [];
+    most_objects = 0;
+    most_properties = 0;
+  };
+  texts = record {
+    texts = codes "" ∷ codes "name" ∷ codes "prototype" ∷ codes "constructor" ∷ codes "message" ∷ codes "length" ∷ codes "size" ∷ codes "bad" ∷ codes "A" ∷ codes "n" ∷ codes "hi" ∷ [];
+    limit = 0;
+  };
+  cells = record {
+    scopes = record { parent = None; cells = Some (Object (record { 0 = 4 })) ∷ [] } ∷ [];
+    limit = 0;
+  };
+}
+
+-- ---- built-in functions
+
+abbrev text_of : List (List ℕ) → Value → List ℕ
+text_of texts (Text t) = text_at texts t.0
+text_of texts v = []
+
+abbrev printed_text : List (List ℕ) → List Value → List ℕ
+printed_text texts [] = []
+printed_text texts (v ∷ vs) = text_of texts v
+
+abbrev pub small_builtins : Builtins
+small_builtins = record {
+  called_as = λ o. if o.0 == 4 then Some Native else None;
+  native = λ o this arguments target s. record { out = Prints (printed_text s.texts.texts arguments); stores = s };
+  constructs = λ o. false;
+  extends = λ o. false;
+  home = record {
+    object = record { 0 = 0 };
+    array = record { 0 = 2 };
+    text = record { 0 = 0 };
+    number = record { 0 = 0 };
+    truth = record { 0 = 0 };
+    length = record { 0 = 5 };
+    size = record { 0 = 6 };
+  };
+  function = record { 0 = 1 };
+  error = λ e. record { 0 = 3 };
+  message_text = λ e. record { 0 = 7 };
+  words = record {
+    undefined = record { 0 = 0 };
+    object = record { 0 = 0 };
+    boolean = record { 0 = 0 };
+    number = record { 0 = 0 };
+    string = record { 0 = 0 };
+    function = record { 0 = 0 };
+  };
+  name = record { 0 = 1 };
+  prototype = record { 0 = 2 };
+  constructor = record { 0 = 3 };
+  message = record { 0 = 4 };
+  global = record { 0 = 0 };
+  bundle = record { 0 = 0 };
+}
+
+-- ---- limits
+
+abbrev pub small_limits : Most
+small_limits = record {
+  calls = 100;
+  objects = 100;
+  properties = 100;
+  cells = 100;
+  text = 100;
+  bindings = 100;
+  variables = 100;
+  resources = 100;
+  turns = 100;
+}
+
+-- ---- codes whose bodies do what is written down
+
+-- bodies by what they do
+abbrev begun : Option Meaning → ScopeId → Run
+begun None s = λ more. Returns Undefined
+begun (Some m) s = m s end_of
+
+abbrev pub doing : List Meaning → Bodies Run
+doing meanings = record {
+  wants = λ r. r [];
+  after = λ a r. λ more. r (a ∷ more);
+  begin = λ b s. begun (slice_get meanings b.0) s;
+}
+
+-- a body of this kind, name and number of cells; no row looks at its form
+abbrev pub body : Form → BodyKind → ℕ → Bool → ℕ → Body
+body form kind name hidden cells = record { kind = kind; flow = flows.Plain; name = name; hidden = hidden; cells = cells; form = form }
+
+abbrev pub small_setup : List Body → Setup
+small_setup bodies = record { code = record { bodies = bodies; literals = []; bundled = [] }; builtins = small_builtins }

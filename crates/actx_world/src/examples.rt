@@ -1,0 +1,41 @@
+//! Worked runs. The functions do nothing: the contract of each is the example, for any forms that stand
+//! in the code, since what the bodies do is written down beside them.
+
+ghost use Rattle.actx_code.specs.declared.form.Form.{Form};
+ghost use Rattle.actx_world.specs.Examples.{EmptyFileRuns, ClassRuns, DerivedClassRuns, FunctionRuns, WalkRuns, CaughtRuns, ThrownRuns};
+
+/// An empty file is three moves: the Do, the end of its body, and the end of its bracket.
+pub fn an_empty_file_is_three_moves()
+    ensures { (form : Form) → EmptyFileRuns form }
+{}
+
+/// `class A { constructor(n) { this.n = n; } } new A(1);` is 16 moves; with a depth of two it ends at
+/// the limit of calls after six.
+pub fn a_class_is_made()
+    ensures { (form : Form) → ClassRuns form }
+{}
+
+/// `class A {} class B extends A {} new B(1, 2);` is 30 moves.
+pub fn a_derived_class_is_made()
+    ensures { (form : Form) → DerivedClassRuns form }
+{}
+
+/// `(function f(a) { let b; })();` is 12 moves.
+pub fn a_function_is_called()
+    ensures { (form : Form) → FunctionRuns form }
+{}
+
+/// `for (const x of [1, 2]) ;` is 15 moves.
+pub fn an_array_is_walked()
+    ensures { (form : Form) → WalkRuns form }
+{}
+
+/// `try { null.n; } catch (e) {}` is six moves, and makes the error.
+pub fn an_error_is_caught()
+    ensures { (form : Form) → CaughtRuns form }
+{}
+
+/// `print('hi'); throw 7;` ends after four moves by what was thrown; the line is printed.
+pub fn a_throw_ends_the_run()
+    ensures { (form : Form) → ThrownRuns form }
+{}

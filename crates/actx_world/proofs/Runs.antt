@@ -1,5 +1,6 @@
 -- The worked runs, by computation.
 use Rattle.std.proofs.Common.{refl}
+use Rattle.std.specs.Fmt.{digits}
 use Rattle.actx_code.specs.declared.form.Form.{Form}
 use Rattle.actx_text.specs.Utf8.{utf8_of}
 use Rattle.actx_text.specs.Utf16.{scalars_of}
@@ -9,7 +10,7 @@ use Rattle.actx_want.specs.Lists.{listed}
 use Rattle.actx_want.specs.Members.{suffixed}
 use Rattle.actx_want.specs.Classes.{stands_on_prototype, members_of}
 use Rattle.actx_want.specs.Statements.{sequenced, declared_of}
-use Rattle.actx_world.specs.Examples.{EmptyFileRuns, ClassRuns, DerivedClassRuns, FunctionRuns, WalkRuns, CaughtRuns, ThrownRuns}
+use Rattle.actx_world.specs.Examples.{EmptyFileRuns, ClassRuns, DerivedClassRuns, FunctionRuns, ArrowRuns, BoundRuns, ThroughRuns, TypedRuns, WalkRuns, CaughtRuns, ThrownRuns}
 
 pub empty_runs : (form : Form) → EmptyFileRuns form
 unfolding met_binding sequenced
@@ -25,7 +26,7 @@ class_runs form = record { ends = refl; events = refl; made = record { objects =
 
 pub derived_runs : (form : Form) → DerivedClassRuns form
 unfolding met_binding sequenced listed stands_on_prototype members_of declared_of turns loop
-derived_runs form = record { ends = refl; made = record { objects = refl; properties = refl; cells = refl } }
+derived_runs form = record { ends = refl; made = record { objects = refl; properties = refl; cells = refl }; object = refl; prototype = refl }
 
 pub function_runs : (form : Form) → FunctionRuns form
 unfolding met_binding sequenced listed suffixed declared_of
@@ -38,3 +39,19 @@ walk_runs form = record { ends = refl; made = record { objects = refl; propertie
 pub caught_runs : (form : Form) → CaughtRuns form
 unfolding met_binding sequenced suffixed declared_of
 caught_runs form = record { ends = refl; made = record { objects = refl; properties = refl; cells = refl } }
+
+pub arrow_runs : (form : Form) → ArrowRuns form
+unfolding met_binding sequenced listed suffixed stands_on_prototype members_of declared_of
+arrow_runs form = record { ends = refl; made = record { objects = refl; properties = refl; cells = refl }; object = refl }
+
+pub bound_runs : (form : Form) → BoundRuns form
+unfolding digits met_binding sequenced listed suffixed
+bound_runs form = record { ends = refl; made = record { objects = refl; properties = refl; cells = refl }; text = refl; called = refl }
+
+pub through_runs : (form : Form) → ThroughRuns form
+unfolding digits met_binding sequenced listed suffixed
+through_runs form = record { called = refl; applied = refl }
+
+pub typed_runs : (form : Form) → TypedRuns form
+unfolding met_binding sequenced listed suffixed utf8_of scalars_of
+typed_runs form = record { ends = refl; text = refl }

@@ -3,24 +3,28 @@ use Rattle.std.specs.Prelude.{◌≡◌, ℕ, ◌+◌, pos, true, false, List, [
 use Rattle.actx_text.specs.declared.body_id.BodyId.{BodyId}
 use Rattle.actx_event.specs.declared.event.Event.{Event}
 use Rattle.actx_event.specs.declared.event.Event.TheVariants.{Init, Before, After, Print}
+use Rattle.actx_value.specs.Texts.{units_of}
+use Rattle.actx_value.specs.declared.ids.ObjId.{ObjId}
+use Rattle.actx_value.specs.declared.operator.UnaryOp.TheVariants as unaries
 use Rattle.actx_value.specs.declared.value.Value.{Value}
 use Rattle.actx_value.specs.declared.value.Value.TheVariants.{Undefined, Null, Num, Text}
 use Rattle.actx_value.specs.declared.end.End.TheVariants.{Finished, Uncaught, Limit}
 use Rattle.actx_value.specs.declared.end.Which.TheVariants.{Calls}
 use Rattle.actx_code.specs.declared.body.Body.{Body}
-use Rattle.actx_code.specs.declared.body.BodyKind.TheVariants.{File, Function, Class, DerivedClass}
+use Rattle.actx_code.specs.declared.body.BodyKind.TheVariants.{File, Function, Arrow, Class, DerivedClass}
 use Rattle.actx_code.specs.declared.form.Form.{Form}
 use Rattle.actx_cells.specs.Scopes.{count_of}
-use Rattle.actx_objects.specs.Objects.{property_count}
+use Rattle.actx_objects.specs.Objects.{property_count, proto_of}
 use Rattle.actx_want.specs.Run.{Run, Meaning}
 use Rattle.actx_want.specs.Names.{name, changed_plainly}
-use Rattle.actx_want.specs.Members.{plain, change_member, member, suffixes}
-use Rattle.actx_want.specs.Lists.{single, spread, array}
+use Rattle.actx_want.specs.Members.{Suffixed, plain, change_member, member, suffixes}
+use Rattle.actx_want.specs.Operators.{unary}
+use Rattle.actx_want.specs.Lists.{Listed, single, spread, array}
 use Rattle.actx_want.specs.Calls.{call, new, super_call}
 use Rattle.actx_want.specs.Functions.{function, parameter, rest_parameter}
 use Rattle.actx_want.specs.Patterns.{slot}
 use Rattle.actx_want.specs.Classes.{class}
-use Rattle.actx_want.specs.Statements.{sequence, init, block, thrown}
+use Rattle.actx_want.specs.Statements.{sequence, init, block, returned, thrown}
 use Rattle.actx_want.specs.Loops.{of_loop}
 use Rattle.actx_want.specs.Tries.{bound, try}
 use Rattle.actx_want.specs.Examples.{literal}
@@ -41,10 +45,18 @@ end_within most bodies meanings budget = last_of (doing meanings) (small_setup b
 abbrev pub end : List Body → List Meaning → Last
 end bodies meanings = end_within small_limits bodies meanings 40
 
+-- the n-th object that the run made, from 0
+abbrev pub made_object : ℕ → ObjId
+made_object n = record { 0 = 8 + n }
+
+-- the prototype of the n-th object that the run made, from 0
+abbrev pub prototype_of : World Run → ℕ → Option ObjId
+prototype_of w n = proto_of w.state.stores.objects (made_object n)
+
 -- how many objects, properties, and scopes with their cells the run made
 pub record Made (w : World Run) (o p c : ℕ) : Type 0 where
-  pub objects : length w.state.stores.objects.objects ≡ 5 + o
-  pub properties : property_count w.state.stores.objects.objects ≡ p
+  pub objects : length w.state.stores.objects.objects ≡ 8 + o
+  pub properties : property_count w.state.stores.objects.objects ≡ 3 + p
   pub cells : count_of w.state.stores.cells.scopes ≡ 2 + c
 
 abbrev pub finished : ℕ → Last
@@ -108,6 +120,76 @@ derived_meanings =
 pub record DerivedClassRuns (form : Form) : Type 0 where
   pub ends : end (derived_bodies form) derived_meanings ≡ finished 30
   pub made : Made (run (derived_bodies form) derived_meanings 30) 7 8 12
+  -- the new object, the last one made, has the prototype object of B, and that has the one of A
+  pub object : prototype_of (run (derived_bodies form) derived_meanings 30) 6 ≡ Some (made_object 3)
+  pub prototype : prototype_of (run (derived_bodies form) derived_meanings 30) 3 ≡ Some (made_object 1)
+
+-- ---- class A {} class B extends A { constructor() { (() => super())(); } } new B();
+
+abbrev pub arrow_bodies : Form → List Body
+arrow_bodies form = file form ∷ body form Class 8 true 3 ∷ body form DerivedClass 8 true 3 ∷ body form Arrow 0 false 0 ∷ []
+
+abbrev pub arrow_meanings : List Meaning
+arrow_meanings =
+    block 2 [] (sequence (
+      init 0 (class (body_number 1) None (text_number 2) [])
+      ∷ init 1 (class (body_number 2) (Some (name 0 0)) (text_number 2) [])
+      ∷ new (name 0 1) []
+      ∷ []))
+    ∷ sequence []
+    ∷ sequence (suffixes (function (body_number 3)) (call false [] ∷ []) ∷ [])
+    ∷ returned (super_call 1 [])
+    ∷ []
+
+pub record ArrowRuns (form : Form) : Type 0 where
+  pub ends : end (arrow_bodies form) arrow_meanings ≡ finished 25
+  -- the objects of A and B, the arrow, and the new object, whose prototype is the prototype object of B
+  pub made : Made (run (arrow_bodies form) arrow_meanings 25) 6 7 12
+  pub object : prototype_of (run (arrow_bodies form) arrow_meanings 25) 5 ≡ Some (made_object 3)
+
+-- ---- (() => 1).bind(1); and the same called
+
+abbrev pub one_bodies : Form → List Body
+one_bodies form = file form ∷ body form Arrow 0 false 0 ∷ []
+
+abbrev pub bound_meanings : List Suffixed → List Meaning
+bound_meanings calls =
+    suffixes (function (body_number 1)) (member false (plain (text_number 13)) ∷ call false (single (literal (Num (pos 1))) ∷ []) ∷ calls)
+    ∷ returned (literal (Num (pos 1)))
+    ∷ []
+
+pub record BoundRuns (form : Form) : Type 0 where
+  pub ends : end (one_bodies form) (bound_meanings []) ≡ finished 6
+  pub made : Made (run (one_bodies form) (bound_meanings []) 6) 2 2 0
+  -- `bound ` is a new text
+  pub text : units_of (run (one_bodies form) (bound_meanings []) 6).state.stores.texts.texts ≡ 6 + units_of small_stores.texts.texts
+  -- Call and the Do of the bound function, the Do of its target, its end, and the answer
+  pub called : end (one_bodies form) (bound_meanings (call false [] ∷ [])) ≡ finished 10
+
+-- ---- `call` and `apply` of a function cost what its call costs
+
+abbrev pub through_meanings : ℕ → List Listed → List Meaning
+through_meanings key arguments =
+    suffixes (function (body_number 1)) (member false (plain (text_number key)) ∷ call false arguments ∷ []) ∷ returned (literal (Num (pos 1))) ∷ []
+
+pub record ThroughRuns (form : Form) : Type 0 where
+  pub called : end (one_bodies form) (through_meanings 11 []) ≡ finished 9
+  pub applied : end (one_bodies form) (through_meanings 12 (single (literal Null) ∷ single (array (single (literal Null) ∷ [])) ∷ [])) ≡ finished 10
+
+-- ---- print(typeof (() => 1)); print(typeof null); print in turn
+
+abbrev pub typed_meanings : List Meaning
+typed_meanings =
+    sequence (
+      suffixes (name 0 0) (call false (single (unary unaries.TypeOf (function (body_number 1))) ∷ []) ∷ [])
+      ∷ suffixes (name 0 0) (call false (single (unary unaries.TypeOf (literal Null)) ∷ []) ∷ [])
+      ∷ [])
+    ∷ returned (literal (Num (pos 1)))
+    ∷ []
+
+pub record TypedRuns (form : Form) : Type 0 where
+  pub ends : end (one_bodies form) typed_meanings ≡ finished 10
+  pub text : printed (run (one_bodies form) typed_meanings 10).events ≡ codes "function\nobject\n"
 
 -- ---- (function f(a) { let b; })();
 

@@ -6,20 +6,25 @@ use Rattle.actx_value.specs.Texts.{text_at}
 use Rattle.actx_value.specs.declared.ids.ObjId.{ObjId}
 use Rattle.actx_value.specs.declared.ids.ScopeId.{ScopeId}
 use Rattle.actx_value.specs.declared.ids.TextId.{TextId}
+use Rattle.actx_value.specs.declared.caller_id.CallerId.TheVariants as callers
+use Rattle.actx_value.specs.declared.value.Key.{Key}
+use Rattle.actx_value.specs.declared.value.Key.TheVariants.{Name}
 use Rattle.actx_value.specs.declared.value.Value.{Value}
 use Rattle.actx_value.specs.declared.value.Value.TheVariants.{Undefined, Null, Bool as Truth, Num, Text, Object, Scope, Mark}
 use Rattle.actx_code.specs.Codes.{Lists}
 use Rattle.actx_code.specs.declared.body.Body.{Body}
 use Rattle.actx_code.specs.declared.body.BodyKind.{BodyKind}
 use Rattle.actx_code.specs.declared.form.Form.{Form}
+use Rattle.actx_cells.specs.Scopes.{held}
 use Rattle.actx_objects.specs.declared.object.Object.{Object as AnObject}
+use Rattle.actx_objects.specs.declared.props.Prop.{Prop}
 use Rattle.actx_objects.specs.declared.kind.Kind.{Kind}
 use Rattle.actx_objects.specs.declared.kind.Kind.TheVariants as kinds
 use Rattle.actx_request.specs.Outcomes.{Stores}
 use Rattle.actx_want.specs.Run.{Run, Meaning}
 use Rattle.actx_want.specs.Bodies.{end_of}
 use Rattle.actx_want.specs.Run.{Wants, Returns}
-use Rattle.actx_world.specs.Setup.{Bodies, Called, Native, Builtins, Setup, NativeOut, Gives, Prints, NativeOutcome}
+use Rattle.actx_world.specs.Setup.{Bodies, Called, Native, Caller, Builtins, Setup, NativeOut, Gives, Prints, NativeOutcome}
 use Rattle.actx_world.specs.Ends.{Most}
 
 -- ---- objects and texts
@@ -27,16 +32,33 @@ use Rattle.actx_world.specs.Ends.{Most}
 abbrev built_in : Kind → AnObject
 built_in kind = record { kind = kind; proto = None; frozen = true; props = []; entries = record { standing = []; places = 0 } }
 
--- the prototypes of objects, functions, arrays and errors, and a function that prints a text
+-- a hidden property: its name, and the number of an object
+abbrev property : ℕ → ℕ → Key × Prop
+property name o = (Name (record { 0 = name }), record { value = Object (record { 0 = o }); hidden = true })
+
+abbrev functions : AnObject
+functions = record {
+  kind = kinds.Plain;
+  proto = None;
+  frozen = true;
+  props = property 11 5 ∷ property 12 6 ∷ property 13 7 ∷ [];
+  entries = record { standing = []; places = 0 };
+}
+
+-- the prototypes of objects, functions, arrays and errors; a function that prints a text; and `call`, `apply` and `bind` of
+-- functions
 abbrev pub small_stores : Stores
 small_stores = record {
   objects = record {
-    objects = built_in kinds.Plain ∷ built_in kinds.Plain ∷ built_in kinds.Plain ∷ built_in kinds.Plain ∷ built_in kinds.Native ∷ [];
+    objects =
+        built_in kinds.Plain ∷ functions ∷ built_in kinds.Plain ∷ built_in kinds.Plain
+        ∷ built_in kinds.Native ∷ built_in kinds.Native ∷ built_in kinds.Native ∷ built_in kinds.Native ∷ [];
     most_objects = 0;
     most_properties = 0;
   };
   texts = record {
-    texts = codes "" ∷ codes "name" ∷ codes "prototype" ∷ codes "constructor" ∷ codes "message" ∷ codes "length" ∷ codes "size" ∷ codes "bad" ∷ codes "A" ∷ codes "n" ∷ codes "hi" ∷ [];
+    texts = codes "" ∷ codes "name" ∷ codes "prototype" ∷ codes "constructor" ∷ codes "message" ∷ codes "length" ∷ codes "size" ∷ codes "bad" ∷ codes "A" ∷ codes "n" ∷ codes "hi"
+        ∷ codes "call" ∷ codes "apply" ∷ codes "bind" ∷ codes "object" ∷ codes "function" ∷ [];
     limit = 0;
   };
   cells = record {
@@ -55,9 +77,15 @@ abbrev printed_text : List (List ℕ) → List Value → List ℕ
 printed_text texts [] = []
 printed_text texts (v ∷ vs) = text_of texts v
 
+-- what the objects are called as
+abbrev small_table : List (Option Called)
+small_table =
+    None ∷ None ∷ None ∷ None ∷ Some Native
+    ∷ Some (Caller callers.FunctionCall) ∷ Some (Caller callers.FunctionApply) ∷ Some (Caller callers.FunctionBind) ∷ []
+
 abbrev pub small_builtins : Builtins
 small_builtins = record {
-  called_as = λ o. if o.0 == 4 then Some Native else None;
+  called_as = λ o. held (slice_get small_table o.0);
   native = λ o this arguments target s. record { out = Prints (printed_text s.texts.texts arguments); stores = s };
   constructs = λ o. false;
   extends = λ o. false;
@@ -75,11 +103,11 @@ small_builtins = record {
   message_text = λ e. record { 0 = 7 };
   words = record {
     undefined = record { 0 = 0 };
-    object = record { 0 = 0 };
+    object = record { 0 = 14 };
     boolean = record { 0 = 0 };
     number = record { 0 = 0 };
     string = record { 0 = 0 };
-    function = record { 0 = 0 };
+    function = record { 0 = 15 };
   };
   name = record { 0 = 1 };
   prototype = record { 0 = 2 };

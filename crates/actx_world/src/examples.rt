@@ -2,7 +2,7 @@
 //! in the code, since what the bodies do is written down beside them.
 
 ghost use Rattle.actx_code.specs.declared.form.Form.{Form};
-ghost use Rattle.actx_world.specs.Examples.{EmptyFileRuns, ClassRuns, DerivedClassRuns, FunctionRuns, WalkRuns, CaughtRuns, ThrownRuns};
+ghost use Rattle.actx_world.specs.Examples.{EmptyFileRuns, ClassRuns, DerivedClassRuns, FunctionRuns, ArrowRuns, BoundRuns, ThroughRuns, TypedRuns, WalkRuns, CaughtRuns, ThrownRuns};
 
 /// An empty file is three moves: the Do, the end of its body, and the end of its bracket.
 pub fn an_empty_file_is_three_moves()
@@ -18,6 +18,27 @@ pub fn a_class_is_made()
 /// `class A {} class B extends A {} new B(1, 2);` is 30 moves.
 pub fn a_derived_class_is_made()
     ensures { (form : Form) → DerivedClassRuns form }
+{}
+
+/// `class A {} class B extends A { constructor() { (() => super())(); } } new B();` is 25 moves, and the
+/// new object has the prototype object of B.
+pub fn an_arrow_calls_super()
+    ensures { (form : Form) → ArrowRuns form }
+{}
+
+/// `(() => 1).bind(1);` is six moves, and four more where the bound function is called.
+pub fn a_function_is_bound()
+    ensures { (form : Form) → BoundRuns form }
+{}
+
+/// `(() => 1).call();` and `(() => 1).apply(null, [null]);` are nine and ten moves.
+pub fn call_and_apply_cost_a_call()
+    ensures { (form : Form) → ThroughRuns form }
+{}
+
+/// `print(typeof (() => 1)); print(typeof null);` prints both words.
+pub fn types_are_printed()
+    ensures { (form : Form) → TypedRuns form }
 {}
 
 /// `(function f(a) { let b; })();` is 12 moves.

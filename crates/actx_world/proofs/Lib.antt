@@ -3,3 +3,5 @@ pub mod KeptBrackets
 pub mod CallRows
 pub mod Nests
 pub mod Runs
+pub mod KeptCalls
+pub mod KeptRuns

@@ -70,20 +70,28 @@ abbrev pub times_said : {A : Type 0} → (Event → Option A) → List Event →
 times_said says [] = 0
 times_said says (e ∷ es) = counted (says e) (times_said says es)
 
--- The first count above its limit, in the order in which the limits are looked at. Objects, properties, cells and texts
--- have their limits in the stores.
-abbrev pub first_above : {B : Type 0} → Most → State B → List Event → Option Which
-first_above most s es =
-    if nat_lt most.calls (depth_of s.stack) then Some Calls
-    else if nat_lt s.stores.objects.most_objects (length s.stores.objects.objects) then Some Objects
-    else if nat_lt s.stores.objects.most_properties (property_count s.stores.objects.objects) then Some Properties
-    else if nat_lt s.stores.cells.limit (count_of s.stores.cells.scopes) then Some Cells
-    else if nat_lt s.stores.texts.limit (units_of s.stores.texts.texts) then Some Text
-    else if nat_lt most.bindings (times_said binding_made es) then Some Bindings
+-- the first count of the stores above its limit there, and else what comes after them
+abbrev pub above_in_stores : Stores → Option Which → Option Which
+above_in_stores s later =
+    if nat_lt s.objects.most_objects (length s.objects.objects) then Some Objects
+    else if nat_lt s.objects.most_properties (property_count s.objects.objects) then Some Properties
+    else if nat_lt s.cells.limit (count_of s.cells.scopes) then Some Cells
+    else if nat_lt s.texts.limit (units_of s.texts.texts) then Some Text
+    else later
+
+-- of the counts after those of the stores
+abbrev pub above_past_stores : {B : Type 0} → Most → State B → List Event → Option Which
+above_past_stores most s es =
+    if nat_lt most.bindings (times_said binding_made es) then Some Bindings
     else if nat_lt most.variables (length s.variables) then Some Variables
     else if nat_lt most.resources (length s.resources) then Some Resources
     else if nat_lt most.turns s.turns then Some Turns
     else None
+
+-- the first count above its limit, in the order in which the limits are looked at
+abbrev pub first_above : {B : Type 0} → Most → State B → List Event → Option Which
+first_above most s es =
+    if nat_lt most.calls (depth_of s.stack) then Some Calls else above_in_stores s.stores (above_past_stores most s es)
 
 -- ---- ends
 

@@ -13,6 +13,7 @@ pub mod Rows
 pub mod Ends
 pub mod Worlds
 pub mod Rests
+pub mod Keeping
 pub mod Laws
 pub mod SmallStore
 pub mod Examples

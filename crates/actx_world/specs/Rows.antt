@@ -31,6 +31,10 @@ is_empty (x ∷ xs) = false
 abbrev pub root : Resource
 root = record { trigger = 0; object = None; destroyed = false }
 
+-- the events of the beginning of the main script, the newest first
+abbrev pub main_events : List Event
+main_events = Before (record { 0 = 1 }) ∷ Init (record { 0 = 1 }) (codes "ROOT") 0 0 ∷ []
+
 module _ {B : Type 0} where
   -- ---- a closing item
 
@@ -76,12 +80,11 @@ module _ {B : Type 0} (bodies : Bodies B) (setup : Setup) where
     end = after.Plain;
   }
 
+  abbrev pub main_begun : Activation B → State B → State B
+  main_begun a s = pushed (Body a) (pushed (Close (Running (record { 0 = 1 })) false) (record s { resources = root ∷ [] }))
+
   abbrev pub row_main : State B → Next B
-  row_main s =
-      On (record {
-        adds = Before (record { 0 = 1 }) ∷ Init (record { 0 = 1 }) (codes "ROOT") 0 0 ∷ [];
-        state = pushed (Body main_activation) (pushed (Close (Running (record { 0 = 1 })) false) (record s { resources = root ∷ [] }));
-      })
+  row_main s = On (record { adds = main_events; state = main_begun main_activation s })
 
   abbrev pub row_do : Oracle → Due → State B → Next B
   row_do oracle Main s = row_main s

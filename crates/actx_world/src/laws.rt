@@ -2,6 +2,7 @@
 
 ghost use Rattle.actx_want.specs.Run.{Run};
 ghost use Rattle.actx_world.specs.Rests.{Replay};
+ghost use Rattle.actx_world.specs.Keeping.{ReplaysAreRests};
 ghost use Rattle.actx_world.specs.Laws.{BothWorldsAreSame, EventsNest};
 
 /// The world with mappings carried has the events and the state of the world with reads by the causal
@@ -16,4 +17,10 @@ pub fn same_events()
 pub fn nesting()
     ensures rests { EventsNest Run }
     ensures replays { EventsNest Replay }
+{}
+
+/// A run whose bodies are evaluated again with each answer is, after every number of moves, the run whose
+/// bodies go on from where they are.
+pub fn replaying()
+    ensures { ReplaysAreRests }
 {}

@@ -5,3 +5,4 @@ pub mod Nests
 pub mod Runs
 pub mod KeptCalls
 pub mod KeptRuns
+pub mod LastSteps

@@ -11,7 +11,7 @@ use Rattle.actx_world.specs.State.{State}
 use Rattle.actx_world.specs.Moves.{Oracle, Move, Next, On, TurnDue, Over, Unbuilt}
 use Rattle.actx_world.specs.Rows.{next}
 use Rattle.actx_world.specs.Ends.{Most, counted, times_said, Ended, ended_by}
-use Rattle.actx_world.specs.Worlds.{walked, carrying, World, CarriedWorld, carried_past, made_by, moved_by, carried_made_by, carried_moved_by, step, world, carried_step, carried_world}
+use Rattle.actx_world.specs.Worlds.{walked, carrying, World, CarriedWorld, carried_past, made_by, moved_by, carried_made_by, carried_moved_by, end_of, carried_end, step, world, carried_step, carried_world}
 use Rattle.actx_world.specs.Laws.{SameAfter}
 
 -- ---- counts
@@ -79,9 +79,13 @@ module _ {B : Type 0} (bodies : Bodies B) (setup : Setup) (most : Most) where
   same_world stores zero = refl
   same_world stores (suc k) = ap (carried_step bodies setup most) (same_world stores k) ∙ full_step (world bodies setup most stores k)
 
+  same_end : (w : World B) → carried_end bodies setup most (full w) ≡ end_of bodies setup most w
+  same_end w = ap (λ o. ended_by most w.state w.events (next bodies setup o w.state)) (same_oracle w.events)
+
   pub same_after : (stores : Stores) (k : ℕ) → SameAfter bodies setup most stores k
   same_after stores k = record {
     events = ap (λ w. w.events) (same_world stores k);
     state = ap (λ w. w.state) (same_world stores k);
     carried = ap (λ w. w.carried) (same_world stores k);
+    ended = ap (carried_end bodies setup most) (same_world stores k) ∙ same_end (world bodies setup most stores k);
   }

@@ -1,5 +1,5 @@
 -- The laws of these definitions: statements that the contracts of the functions in `laws` prove.
-use Rattle.std.specs.Prelude.{◌≡◌, ℕ, true, List, [], ◌∷◌, map}
+use Rattle.std.specs.Prelude.{◌≡◌, ℕ, ◌+◌, ◌≤◌, ◌<◌, true, List, [], ◌∷◌, Option, Some, None}
 use Rattle.actx_event.specs.declared.bracket.Bracket.{Bracket}
 use Rattle.actx_event.specs.declared.bracket.Open.{Open}
 use Rattle.actx_event.specs.Brackets.{opened, nests}
@@ -7,17 +7,20 @@ use Rattle.actx_event.specs.Mappings.{carried}
 use Rattle.actx_request.specs.Outcomes.{Stores}
 use Rattle.actx_world.specs.Setup.{Bodies, Setup}
 use Rattle.actx_world.specs.State.{Item, Body, Do, Reply, Hooks, Close}
-use Rattle.actx_world.specs.Ends.{Most}
-use Rattle.actx_world.specs.Worlds.{world, carried_world}
+use Rattle.actx_request.specs.Limits.{first_above as above_by_request}
+use Rattle.actx_world.specs.Moves.{TurnDue}
+use Rattle.actx_world.specs.Ends.{Most, first_above, above_in_stores, Ended}
+use Rattle.actx_world.specs.Worlds.{world, carried_world, next_of, end_of, carried_end, Last, EndedBy, Budget, TapeEnded, last_of}
 
 -- ---- both worlds
 
--- the world with mappings carried has the events and the state of the world with reads by the walk, and carries what its
--- events say
+-- the world with mappings carried has the events, the state and the end of the world with reads by the walk, and carries
+-- what its events say
 pub record SameAfter {B : Type 0} (bodies : Bodies B) (setup : Setup) (most : Most) (stores : Stores) (k : ℕ) : Type 0 where
   pub events : (carried_world bodies setup most stores k).events ≡ (world bodies setup most stores k).events
   pub state : (carried_world bodies setup most stores k).state ≡ (world bodies setup most stores k).state
   pub carried : (carried_world bodies setup most stores k).carried ≡ carried (world bodies setup most stores k).events
+  pub ended : carried_end bodies setup most (carried_world bodies setup most stores k) ≡ end_of bodies setup most (world bodies setup most stores k)
 
 abbrev pub BothWorldsAreSame : Type 0 → Type 0
 BothWorldsAreSame B = (bodies : Bodies B) (setup : Setup) (most : Most) (stores : Stores) (k : ℕ) → SameAfter bodies setup most stores k
@@ -45,3 +48,44 @@ pub record NestsAfter {B : Type 0} (bodies : Bodies B) (setup : Setup) (most : M
 
 abbrev pub EventsNest : Type 0 → Type 0
 EventsNest B = (bodies : Bodies B) (setup : Setup) (most : Most) (stores : Stores) (k : ℕ) → NestsAfter bodies setup most stores k
+
+-- ---- ends
+
+-- no count is ever above its limit
+abbrev pub LimitsHold : Type 0 → Type 0
+LimitsHold B =
+    (bodies : Bodies B) (setup : Setup) (most : Most) (stores : Stores) (k : ℕ) →
+    first_above most (world bodies setup most stores k).state (world bodies setup most stores k).events ≡ None
+
+-- the counts of a request that are greater after it and above their limits are those above their limits after it, where
+-- the limits stay and no count was above its own before
+pub record SameLimits (before after : Stores) : Type 0 where
+  pub objects : before.objects.most_objects ≡ after.objects.most_objects
+  pub properties : before.objects.most_properties ≡ after.objects.most_properties
+  pub cells : before.cells.limit ≡ after.cells.limit
+  pub text : before.texts.limit ≡ after.texts.limit
+
+abbrev pub RequestsMeetLimits : Type 0
+RequestsMeetLimits =
+    (before after : Stores) → SameLimits before after → above_in_stores before None ≡ None →
+    above_by_request before after ≡ above_in_stores after None
+
+-- what the last step of a run is: the first world at which an end holds, and else where the budget or the tape ends
+pub record IsLast {B : Type 0} (bodies : Bodies B) (setup : Setup) (most : Most) (stores : Stores) (budget : ℕ) (l : Last) : Type 0 where
+  pub within : l.moves ≤ budget
+  pub earlier : (k : ℕ) → k < l.moves → end_of bodies setup most (world bodies setup most stores k) ≡ None
+  pub ended : (e : Ended) → l.ending ≡ EndedBy e → end_of bodies setup most (world bodies setup most stores l.moves) ≡ Some e
+  pub used_up : l.ending ≡ Budget → (l.moves ≡ budget) × (end_of bodies setup most (world bodies setup most stores l.moves) ≡ None)
+  pub due : l.ending ≡ TapeEnded → (next_of bodies setup most (world bodies setup most stores l.moves) ≡ TurnDue) × (end_of bodies setup most (world bodies setup most stores l.moves) ≡ None)
+
+abbrev pub LastIsFirst : Type 0 → Type 0
+LastIsFirst B =
+    (bodies : Bodies B) (setup : Setup) (most : Most) (stores : Stores) (budget : ℕ) →
+    IsLast bodies setup most stores budget (last_of bodies setup most stores budget)
+
+-- where an end holds, the world stays as it is
+abbrev pub EndedWorldsStay : Type 0 → Type 0
+EndedWorldsStay B =
+    (bodies : Bodies B) (setup : Setup) (most : Most) (stores : Stores) (k n : ℕ) (e : Ended) →
+    end_of bodies setup most (world bodies setup most stores k) ≡ Some e →
+    world bodies setup most stores (n + k) ≡ world bodies setup most stores k

@@ -3,9 +3,9 @@
 ghost use Rattle.actx_want.specs.Run.{Run};
 ghost use Rattle.actx_world.specs.Rests.{Replay};
 ghost use Rattle.actx_world.specs.Keeping.{ReplaysAreRests};
-ghost use Rattle.actx_world.specs.Laws.{BothWorldsAreSame, EventsNest};
+ghost use Rattle.actx_world.specs.Laws.{BothWorldsAreSame, EventsNest, LimitsHold, RequestsMeetLimits, LastIsFirst, EndedWorldsStay};
 
-/// The world with mappings carried has the events and the state of the world with reads by the causal
+/// The world with mappings carried has the events, the state and the end of the world with reads by the causal
 /// walk, after every number of moves, however bodies are kept.
 pub fn same_events()
     ensures rests { BothWorldsAreSame Run }
@@ -23,4 +23,21 @@ pub fn nesting()
 /// bodies go on from where they are.
 pub fn replaying()
     ensures { ReplaysAreRests }
+{}
+
+/// No count of a world is above its limit; and where that was so before a request, the limit that the
+/// request meets is the first count above its own after it.
+pub fn limits()
+    ensures rests { LimitsHold Run }
+    ensures replays { LimitsHold Replay }
+    ensures requests { RequestsMeetLimits }
+{}
+
+/// The last step of a run is the first world at which an end holds, and else the one where the budget or
+/// the tape ends; where an end holds, there is no further move.
+pub fn last_step()
+    ensures rests { LastIsFirst Run }
+    ensures replays { LastIsFirst Replay }
+    ensures rests_stay { EndedWorldsStay Run }
+    ensures replays_stay { EndedWorldsStay Replay }
 {}

@@ -14,5 +14,5 @@ pub use examples::{
     an_error_is_caught, call_and_apply_cost_a_call, types_are_printed,
 };
 pub use handed::{BodyEnd, Handed};
-pub use laws::{nesting, replaying, same_events};
+pub use laws::{last_step, limits, nesting, replaying, same_events};
 pub use phase::{LastJob, LoopPhase};

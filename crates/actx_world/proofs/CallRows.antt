@@ -1,5 +1,5 @@
 -- The rows of calls keep the brackets.
-use Rattle.std.proofs.Common.{◌≡◌, ℕ, Bool, true, false, List, [], ◌∷◌, ◌++◌, Option, Some, None}
+use Rattle.std.proofs.Common.{Bool, true, false, List, ◌∷◌, ◌++◌, Option, Some, None}
 use Rattle.actx_text.specs.declared.body_id.BodyId.{BodyId}
 use Rattle.actx_tree.specs.declared.function.Flow.{Flow}
 use Rattle.actx_tree.specs.declared.function.Flow.TheVariants as flows
@@ -11,17 +11,15 @@ use Rattle.actx_value.specs.declared.value.Value.{Value}
 use Rattle.actx_value.specs.declared.value.Value.TheVariants as values
 use Rattle.actx_value.specs.declared.error_kind.ErrorKind.TheVariants.{TypeError}
 use Rattle.actx_objects.specs.Objects.{proto_of}
-use Rattle.actx_request.specs.Outcomes.{Stores, with_texts}
-use Rattle.actx_request.specs.Lists.{next_object}
+use Rattle.actx_request.specs.Outcomes.{with_texts}
 use Rattle.actx_world.specs.declared.handed.Handed.TheVariants as hand
 use Rattle.actx_world.specs.declared.handed.BodyEnd.{BodyEnd}
-use Rattle.actx_world.specs.Setup.{Bodies, Builtins, Setup, NativeOutcome, NativeOut, Gives, Throws, OutOfProfile, Exits, Prints}
-use Rattle.actx_world.specs.Parts.{Part}
-use Rattle.actx_world.specs.State.{Activation, Due, Call, Construct, Item, Body, Do, State, with_stores}
-use Rattle.actx_world.specs.Moves.{Oracle, Next, Asker, Asked, Handing, handed_to, waiting}
+use Rattle.actx_world.specs.Setup.{Bodies, Setup, NativeOut, Gives, Throws, OutOfProfile, Exits, Prints}
+use Rattle.actx_world.specs.State.{Activation, Due, Call, Do, State, with_stores}
+use Rattle.actx_world.specs.Moves.{Oracle, Asker, Asked, Handing, waiting}
 use Rattle.actx_world.specs.Functions.{kind_at, flow_at, is_class, is_derived, Callee, NotCallable, OfProgram, OfBundle, OfBound, OfStore, OfMachine, OfLater, callee_of, callee_at, is_constructor}
 use Rattle.actx_world.specs.Acts.{Act, Give, Refuse, Leave, Invoke, MakeBound, Execution, Trigger, Later, decide}
-use Rattle.actx_world.specs.Calls.{row_begin, row_body_call, row_closure, row_native, row_store_call, bound_made, row_act, call_as, row_call, construct_begun, row_body_construct, row_bound_construct, construct_as, construct_if, row_construct, row_new, row_parent, row_super, new_target}
+use Rattle.actx_world.specs.Calls.{row_begin, row_body_call, row_closure, row_native, bound_made, row_act, call_as, row_call, construct_begun, row_body_construct, row_bound_construct, construct_as, construct_if, row_construct, row_new, row_parent, row_super}
 use Rattle.actx_world.proofs.KeptBrackets.{Nested, Keeps, keeps_handed, keeps_waiting, keeps_gives, keeps_throws}
 
 module _ {B : Type 0} (bodies : Bodies B) (setup : Setup) where

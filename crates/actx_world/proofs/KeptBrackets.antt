@@ -1,31 +1,21 @@
 -- The open brackets are the closing items of the stack.
-use Rattle.std.proofs.Common.{◌≡◌, ℕ, zero, suc, Bool, true, false, ◌&&◌, List, [], ◌∷◌, ◌++◌, Option, Some, None, if◌then◌else◌, refl, sym, ap, ◌∙◌, eq-eqb}
+use Rattle.std.proofs.Common.{◌≡◌, Bool, true, ◌&&◌, List, [], ◌∷◌, ◌++◌, Option, Some, None, if◌then◌else◌, refl, ap, ◌∙◌, eq-eqb}
 use Rattle.std.specs.Prelude.{is_some}
-use Rattle.std.specs.declared.result.Result.{Result}
-use Rattle.actx_text.specs.declared.body_id.BodyId.{BodyId}
-use Rattle.actx_tree.specs.declared.function.Flow.{Flow}
-use Rattle.actx_tree.specs.declared.function.Flow.TheVariants as flows
 use Rattle.actx_event.specs.declared.event.Event.{Event}
-use Rattle.actx_event.specs.declared.event.Event.TheVariants.{After, Leave, Unbind}
 use Rattle.actx_event.specs.declared.bracket.Bracket.{Bracket}
 use Rattle.actx_event.specs.declared.bracket.Bracket.TheVariants.{Running, Entered, Bound}
 use Rattle.actx_event.specs.declared.bracket.Open.{Open}
 use Rattle.actx_event.specs.Front.{Front}
 use Rattle.actx_event.specs.Brackets.{same_bracket, with_closed, opened, has_opener, nests}
-use Rattle.actx_value.specs.declared.ids.ObjId.{ObjId}
-use Rattle.actx_value.specs.declared.ids.ScopeId.{ScopeId}
 use Rattle.actx_value.specs.declared.value.Value.{Value}
-use Rattle.actx_value.specs.declared.value.Answer.{Answer}
 use Rattle.actx_value.specs.declared.error_kind.ErrorKind.{ErrorKind}
 use Rattle.actx_request.specs.declared.given.Given.{Given}
 use Rattle.actx_request.specs.declared.given.Given.TheVariants as given
 use Rattle.actx_world.specs.declared.handed.Handed.{Handed}
 use Rattle.actx_world.specs.declared.handed.Handed.TheVariants as hand
-use Rattle.actx_world.specs.declared.handed.BodyEnd.{BodyEnd}
-use Rattle.actx_world.specs.declared.handed.BodyEnd.TheVariants as after
-use Rattle.actx_world.specs.Setup.{Bodies, Builtins, Setup}
-use Rattle.actx_world.specs.State.{Activation, Item, Body, Do, Reply, Hooks, Close, State, pushed, with_stores}
-use Rattle.actx_world.specs.Moves.{Move, Next, On, TurnDue, Over, Unbuilt, Asker, Asked, Handing, quiet, resumed, handed_to, waiting, value_to, gives_to, throws_to, given_to, outcome_to}
+use Rattle.actx_world.specs.Setup.{Bodies, Builtins}
+use Rattle.actx_world.specs.State.{Activation, Item, Body, Close, State}
+use Rattle.actx_world.specs.Moves.{Next, On, TurnDue, Over, Unbuilt, Asker, Asked, Handing, handed_to, waiting, gives_to, throws_to, given_to}
 use Rattle.actx_world.specs.Rows.{closer, row_closing}
 use Rattle.actx_world.specs.Laws.{brackets, closings}
 

@@ -1,5 +1,5 @@
 -- Calls, with bodies kept in two ways.
-use Rattle.std.proofs.Common.{◌≡◌, ℕ, Bool, true, false, List, [], ◌∷◌, ◌++◌, Option, Some, None, refl, ap, ◌∙◌}
+use Rattle.std.proofs.Common.{◌≡◌, Bool, true, false, List, [], ◌∷◌, ◌++◌, Option, Some, None, refl, ap}
 use Rattle.actx_text.specs.declared.body_id.BodyId.{BodyId}
 use Rattle.actx_tree.specs.declared.function.Flow.{Flow}
 use Rattle.actx_tree.specs.declared.function.Flow.TheVariants as flows
@@ -14,17 +14,17 @@ use Rattle.actx_value.specs.declared.error_kind.ErrorKind.TheVariants.{TypeError
 use Rattle.actx_objects.specs.Objects.{proto_of}
 use Rattle.actx_request.specs.declared.given.Given.{Given}
 use Rattle.actx_request.specs.declared.given.Given.TheVariants as given
-use Rattle.actx_request.specs.Outcomes.{Stores, with_texts}
+use Rattle.actx_request.specs.Outcomes.{with_texts}
 use Rattle.actx_world.specs.declared.handed.Handed.{Handed}
 use Rattle.actx_world.specs.declared.handed.Handed.TheVariants as hand
 use Rattle.actx_world.specs.declared.handed.BodyEnd.{BodyEnd}
 use Rattle.actx_world.specs.Setup.{Bodies, Builtins, Setup, NativeOut, Gives, Throws, OutOfProfile, Exits, Prints}
-use Rattle.actx_world.specs.State.{Activation, Due, Call, Construct, Item, Body, Do, State, pushed, with_stores}
-use Rattle.actx_world.specs.Moves.{Oracle, Next, On, Asker, Asked, Handing, quiet, resumed, answer_of, handed_to, waiting, value_to, gives_to, throws_to, given_to, with_error}
+use Rattle.actx_world.specs.State.{Activation, Due, Call, Body, Do, State, pushed, with_stores}
+use Rattle.actx_world.specs.Moves.{Oracle, On, Asker, Asked, Handing, quiet, answer_of, handed_to, waiting, gives_to, throws_to, given_to, with_error}
 use Rattle.actx_world.specs.Functions.{kind_at, flow_at, is_class, is_derived, Callee, NotCallable, OfProgram, OfBundle, OfBound, OfStore, OfMachine, OfLater, callee_of, callee_at, is_constructor}
 use Rattle.actx_world.specs.Acts.{Act, Give, Refuse, Leave, Invoke, MakeBound, Execution, Trigger, Later, decide}
 use Rattle.actx_world.specs.Calls.{next_scope, with_parameters, begun, row_begin, row_body_call, row_closure, row_native, bound_made, row_act, call_as, row_call, construct_begun, row_body_construct, row_bound_construct, construct_as, construct_if, row_construct, row_new, row_parent, row_super}
-use Rattle.actx_world.specs.Keeping.{activation_by, stack_by, state_by, next_kept, asker_by, StandsFor}
+use Rattle.actx_world.specs.Keeping.{activation_by, state_by, next_kept, asker_by, StandsFor}
 
 module _ {A B : Type 0} (K : Bodies A) (L : Bodies B) (h : A → B) (same : StandsFor K L h) where
   pub same_handed : (asker : Asker A) (x : Handed) (s : State A) → state_by h (handed_to K asker x s) ≡ handed_to L (asker_by h asker) x (state_by h s)

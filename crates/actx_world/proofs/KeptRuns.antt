@@ -6,12 +6,11 @@ use Rattle.std.proofs.Math.Path.{fun_ext}
 use Rattle.actx_text.specs.declared.body_id.BodyId.{BodyId}
 use Rattle.actx_event.specs.declared.event.Event.{Event}
 use Rattle.actx_event.specs.declared.bracket.Bracket.{Bracket}
-use Rattle.actx_event.specs.declared.bracket.Bracket.TheVariants.{Running, Entered, Bound}
+use Rattle.actx_event.specs.declared.bracket.Bracket.TheVariants.{Running}
 use Rattle.actx_value.specs.declared.ids.ObjId.{ObjId}
 use Rattle.actx_value.specs.declared.ids.ScopeId.{ScopeId}
 use Rattle.actx_value.specs.declared.value.Value.{Value}
 use Rattle.actx_value.specs.declared.value.Value.TheVariants as values
-use Rattle.actx_value.specs.declared.value.Answer.{Answer}
 use Rattle.actx_value.specs.declared.request.Request.{Request}
 use Rattle.actx_value.specs.declared.request.Request.TheVariants as requests
 use Rattle.actx_value.specs.declared.operator.UnaryOp.TheVariants as unary
@@ -23,25 +22,25 @@ use Rattle.actx_cells.specs.Scopes.{cell_of}
 use Rattle.actx_code.specs.Codes.{Lists}
 use Rattle.actx_request.specs.Outcomes.{Stores, Outcome}
 use Rattle.actx_request.specs.Answers.{outcome_of}
-use Rattle.actx_want.specs.Run.{Wants, Asks, Returns, Throws, Run}
+use Rattle.actx_want.specs.Run.{Wants, Asks, Returns, Throws}
 use Rattle.actx_want.specs.Bodies.{wants_after}
 use Rattle.actx_world.specs.declared.handed.Handed.{Handed}
 use Rattle.actx_world.specs.declared.handed.Handed.TheVariants as hand
 use Rattle.actx_world.specs.declared.handed.BodyEnd.{BodyEnd}
 use Rattle.actx_world.specs.declared.handed.BodyEnd.TheVariants as after
-use Rattle.actx_world.specs.Setup.{Bodies, Builtins, Setup}
+use Rattle.actx_world.specs.Setup.{Bodies, Setup}
 use Rattle.actx_world.specs.Parts.{Part, Walk}
-use Rattle.actx_world.specs.State.{Activation, Due, Main, Call, Construct, Item, Body, Do, Reply, Hooks, Close, State, with_stores, with_parts, pushed}
-use Rattle.actx_world.specs.Moves.{Oracle, Move, Next, On, TurnDue, Over, Unbuilt, Asked, Handing, quiet, outcome_to}
+use Rattle.actx_world.specs.State.{Activation, Due, Main, Call, Construct, Item, Body, Do, Reply, Hooks, Close, State, with_stores, with_parts}
+use Rattle.actx_world.specs.Moves.{Oracle, Next, On, TurnDue, Over, Unbuilt, Asked, Handing, quiet, outcome_to}
 use Rattle.actx_world.specs.Functions.{Heritage, Extends, Refuses, Leaves, heritage_of}
 use Rattle.actx_world.specs.Walks.{Walked, Walkable, LaterWalk, NotIterable, walked_as, Stepped, NoneLeft, walk_step, walk_part, with_walk, opened_walk, open_as, row_stepped, next_of_part, close_of_part}
 use Rattle.actx_world.specs.Looks.{type_of, is_in, is_instance}
 use Rattle.actx_world.specs.Wishes.{class_of, row_request, this_or_error, end_of_constructor, end_of_derived, row_return, row_wants}
-use Rattle.actx_world.specs.Rows.{root, main_events, main_activation, main_begun, row_do, passed_on, closer, row_closing, closing_by, row_idle, is_quiet, row_body, row_item, popped, next_by, next}
+use Rattle.actx_world.specs.Rows.{main_events, main_activation, main_begun, row_do, passed_on, closer, row_closing, closing_by, is_quiet, row_body, row_item, popped, next_by, next}
 use Rattle.actx_world.specs.Ends.{Most, Ended, depth_of, above_in_stores, above_past_stores, first_above, ended_by}
 use Rattle.actx_world.specs.Worlds.{walked, World, moved_by, next_of, end_of, step, world}
-use Rattle.actx_world.specs.Rests.{first, after as later, from, rests, Replay, replays, rest_of}
-use Rattle.actx_world.specs.Keeping.{activation_by, item_by, stack_by, state_by, next_kept, asker_by, world_by, StandsFor}
+use Rattle.actx_world.specs.Rests.{first, after as later, from, rests, replays, rest_of}
+use Rattle.actx_world.specs.Keeping.{activation_by, item_by, stack_by, state_by, next_kept, world_by, StandsFor}
 use Rattle.actx_world.proofs.KeptCalls.{same_handed, same_gives, same_throws, same_given, same_call, same_construct, same_new, same_super}
 
 module _ {A B : Type 0} (K : Bodies A) (L : Bodies B) (h : A → B) (same : StandsFor K L h) (setup : Setup) where

@@ -1,14 +1,11 @@
 -- Limits that hold, and the last step of a run.
-use Rattle.std.proofs.Common.{◌≡◌, ℕ, zero, suc, ◌+◌, ◌<◌, ◌≤◌, nat_lt, Bool, true, false, ◌&&◌, List, [], ◌∷◌, ◌++◌, length, Option, Some, None, if◌then◌else◌, refl, sym, ap, ◌∙◌, subst, ◌⊎◌, inl, inr, arith}
+use Rattle.std.proofs.Common.{◌≡◌, ℕ, zero, suc, ◌+◌, ◌<◌, ◌≤◌, nat_lt, Bool, true, false, ◌&&◌, [], ◌++◌, length, Option, Some, None, if◌then◌else◌, refl, sym, ap, ◌∙◌, subst, ◌⊎◌, inl, inr, arith}
 use Rattle.std.proofs.lemmas.Bool.{le-ltb}
 use Rattle.std.proofs.lemmas.Bool.Decides.{nat_tests}
 use Rattle.std.proofs.Math.Bool.{and-false}
 use Rattle.std.proofs.Math.Nat.{eq-or-lt_of_le, le_of_suc-le-suc}
 use Rattle.std.specs.Option.{option_map}
-use Rattle.actx_event.specs.declared.event.Event.{Event}
-use Rattle.actx_event.specs.Event.{binding_made}
 use Rattle.actx_value.specs.Texts.{units_of}
-use Rattle.actx_value.specs.declared.end.End.TheVariants as ends
 use Rattle.actx_value.specs.declared.end.Which.{Which}
 use Rattle.actx_value.specs.declared.end.Which.TheVariants.{Calls, Objects, Properties, Cells, Text, Bindings, Variables, Resources, Turns}
 use Rattle.actx_cells.specs.Scopes.{count_of}
@@ -16,10 +13,9 @@ use Rattle.actx_objects.specs.Objects.{property_count}
 use Rattle.actx_request.specs.Outcomes.{Stores}
 use Rattle.actx_request.specs.Limits.{goes_above, first_above as above_by_request}
 use Rattle.actx_world.specs.Setup.{Bodies, Setup}
-use Rattle.actx_world.specs.State.{State}
-use Rattle.actx_world.specs.Moves.{Move, Next, On, TurnDue, Over, Unbuilt}
-use Rattle.actx_world.specs.Ends.{Most, limited, first_above, above_in_stores, above_past_stores, Ended, ended_by}
-use Rattle.actx_world.specs.Worlds.{opening, World, moved_by, next_of, end_of, step, world, Last, EndedBy, Budget, TapeEnded, last_unless, last_past, last_from, last_of}
+use Rattle.actx_world.specs.Moves.{Next, On, TurnDue, Over, Unbuilt}
+use Rattle.actx_world.specs.Ends.{Most, first_above, above_in_stores, Ended, ended_by}
+use Rattle.actx_world.specs.Worlds.{opening, World, moved_by, next_of, end_of, step, world, Last, EndedBy, Budget, last_unless, last_past, last_from, last_of}
 use Rattle.actx_world.specs.Laws.{SameLimits, IsLast}
 
 -- ---- no count is ever above its limit

@@ -1,9 +1,9 @@
 -- Every move keeps the brackets.
-use Rattle.std.proofs.Common.{◌≡◌, ℕ, zero, suc, Bool, true, false, List, [], ◌∷◌, ◌++◌, Option, Some, None, if◌then◌else◌, refl}
+use Rattle.std.proofs.Common.{ℕ, zero, suc, Bool, true, false, List, [], ◌∷◌, Option, Some, None, if◌then◌else◌, refl}
 use Rattle.actx_text.specs.declared.body_id.BodyId.{BodyId}
 use Rattle.actx_event.specs.declared.event.Event.{Event}
 use Rattle.actx_event.specs.declared.bracket.Bracket.{Bracket}
-use Rattle.actx_event.specs.declared.bracket.Bracket.TheVariants.{Running, Entered, Bound}
+use Rattle.actx_event.specs.declared.bracket.Bracket.TheVariants.{Running}
 use Rattle.actx_value.specs.declared.ids.ObjId.{ObjId}
 use Rattle.actx_value.specs.declared.ids.ScopeId.{ScopeId}
 use Rattle.actx_value.specs.declared.value.Value.{Value}
@@ -21,17 +21,17 @@ use Rattle.actx_world.specs.declared.handed.Handed.{Handed}
 use Rattle.actx_world.specs.declared.handed.Handed.TheVariants as hand
 use Rattle.actx_world.specs.declared.handed.BodyEnd.{BodyEnd}
 use Rattle.actx_world.specs.declared.handed.BodyEnd.TheVariants as after
-use Rattle.actx_world.specs.Setup.{Bodies, Builtins, Setup}
+use Rattle.actx_world.specs.Setup.{Bodies, Setup}
 use Rattle.actx_world.specs.Parts.{Part, Walk}
 use Rattle.actx_world.specs.State.{Activation, Due, Main, Call, Construct, Item, Body, Do, Reply, Hooks, Close, State, with_stores, with_parts}
-use Rattle.actx_world.specs.Moves.{Oracle, Move, Next, On, TurnDue, Over, Unbuilt, Asked, Handing, handed_to, outcome_to}
+use Rattle.actx_world.specs.Moves.{Oracle, Next, On, TurnDue, Over, Unbuilt, Asked, Handing, outcome_to}
 use Rattle.actx_world.specs.Functions.{Heritage, Extends, Refuses, Leaves, heritage_of}
-use Rattle.actx_world.specs.Walks.{Walked, Walkable, LaterWalk, NotIterable, walked_as, Stepped, NoneLeft, walk_step, walk_part, with_walk, opened_walk, open_as, row_open, row_stepped, next_of_part, row_next, close_of_part, row_close_walk}
+use Rattle.actx_world.specs.Walks.{Walked, Walkable, LaterWalk, NotIterable, walked_as, Stepped, NoneLeft, walk_step, walk_part, with_walk, opened_walk, open_as, row_stepped, next_of_part, close_of_part}
 use Rattle.actx_world.specs.Looks.{type_of, is_in, is_instance}
 use Rattle.actx_world.specs.Wishes.{class_of, row_request, this_or_error, end_of_constructor, end_of_derived, row_return, row_wants}
-use Rattle.actx_world.specs.Rows.{row_do, closing_by, row_idle, is_quiet, row_body, row_item, popped, next_by, next}
+use Rattle.actx_world.specs.Rows.{row_do, closing_by, is_quiet, row_body, row_item, popped, next_by, next}
 use Rattle.actx_world.specs.Ends.{Most, Ended}
-use Rattle.actx_world.specs.Worlds.{walked, World, moved_by, next_of, end_of, step, world}
+use Rattle.actx_world.specs.Worlds.{walked, World, moved_by, next_of, end_of, world}
 use Rattle.actx_world.specs.Laws.{NestsAfter}
 use Rattle.actx_world.proofs.KeptBrackets.{Nested, Keeps, keeps_closing, keeps_handed, keeps_gives, keeps_throws, keeps_given}
 use Rattle.actx_world.proofs.CallRows.{keeps_call, keeps_construct, keeps_new, keeps_super}

@@ -1,17 +1,16 @@
 -- Both worlds ask oracles that answer the same.
-use Rattle.std.proofs.Common.{◌≡◌, ℕ, zero, suc, List, [], ◌∷◌, ◌++◌, length, Option, Some, None, refl, sym, ap, ◌∙◌}
+use Rattle.std.proofs.Common.{◌≡◌, ℕ, zero, suc, List, [], ◌∷◌, ◌++◌, length, Option, Some, None, refl, ap, ◌∙◌}
 use Rattle.actx_event.specs.declared.event.Event.{Event}
 use Rattle.actx_event.specs.Event.{resource_made, capture_made, declaration_said}
 use Rattle.actx_event.specs.Noted.{Noted, with_note}
-use Rattle.actx_event.specs.Mappings.{Mapping, kept_under, Carried, carried_after, carried}
+use Rattle.actx_event.specs.Mappings.{Mapping, kept_under, carried_after, carried}
 use Rattle.actx_event.proofs.Agree.{agreement, value_agrees, exec_agrees, trigger_agrees}
 use Rattle.actx_request.specs.Outcomes.{Stores}
 use Rattle.actx_world.specs.Setup.{Bodies, Setup}
-use Rattle.actx_world.specs.State.{State}
-use Rattle.actx_world.specs.Moves.{Oracle, Move, Next, On, TurnDue, Over, Unbuilt}
+use Rattle.actx_world.specs.Moves.{Oracle, Next, On, TurnDue, Over, Unbuilt}
 use Rattle.actx_world.specs.Rows.{next}
 use Rattle.actx_world.specs.Ends.{Most, counted, times_said, Ended, ended_by}
-use Rattle.actx_world.specs.Worlds.{walked, carrying, World, CarriedWorld, carried_past, made_by, moved_by, carried_made_by, carried_moved_by, end_of, carried_end, step, world, carried_step, carried_world}
+use Rattle.actx_world.specs.Worlds.{walked, carrying, World, CarriedWorld, carried_past, moved_by, carried_moved_by, end_of, carried_end, step, world, carried_step, carried_world}
 use Rattle.actx_world.specs.Laws.{SameAfter}
 
 -- ---- counts

@@ -1,12 +1,12 @@
 -- What the built-in functions that the machine answers do, as far as they have rows: `call`, `apply` and `bind` of
 -- functions, and the identifiers of `async_hooks`.
-use Rattle.std.specs.Prelude.{ℕ, zero, suc, ◌+◌, ℤ, pos, negsuc, List, [], ◌∷◌, drop, slice_get, Option, Some, None, unwrap_or, if◌then◌else◌}
+use Rattle.std.specs.Prelude.{ℕ, zero, suc, ℤ, pos, negsuc, List, [], ◌∷◌, drop, slice_get, unwrap_or, if◌then◌else◌}
 use Rattle.std.specs.declared.result.Result.{Result}
 use Rattle.std.specs.declared.result.Result.TheVariants.{Ok, Err}
 use Rattle.actx_value.specs.declared.ids.ObjId.{ObjId}
 use Rattle.actx_value.specs.declared.value.Key.TheVariants.{Name}
 use Rattle.actx_value.specs.declared.value.Value.{Value}
-use Rattle.actx_value.specs.declared.value.Value.TheVariants.{Undefined, Null, Bool as Truth, Num, Text, Object, Scope, Mark}
+use Rattle.actx_value.specs.declared.value.Value.TheVariants.{Undefined, Null, Num, Object}
 use Rattle.actx_value.specs.declared.operator.Op.TheVariants.{ToNumber}
 use Rattle.actx_value.specs.declared.caller_id.CallerId.{CallerId}
 use Rattle.actx_value.specs.declared.caller_id.CallerId.TheVariants as callers

@@ -1,5 +1,5 @@
 -- Calls: what a call and a `new` do, asked by a body or made by a Do (Call §7.3.14, Construct §7.3.15 of ECMA-262).
-use Rattle.std.specs.Prelude.{ℕ, zero, suc, ◌==◌, pos, Bool, true, false, List, [], ◌∷◌, ◌++◌, length, drop, slice_get, Option, Some, None, if◌then◌else◌, unwrap_or}
+use Rattle.std.specs.Prelude.{ℕ, zero, suc, ◌==◌, pos, Bool, true, false, List, [], ◌∷◌, ◌++◌, length, slice_get, Option, Some, None, if◌then◌else◌, unwrap_or}
 use Rattle.std.specs.Option.{option_or, option_map_or, option_and_then}
 use Rattle.actx_text.specs.declared.body_id.BodyId.{BodyId}
 use Rattle.actx_tree.specs.declared.function.Flow.{Flow}
@@ -10,13 +10,11 @@ use Rattle.actx_value.specs.Texts.{with_text}
 use Rattle.actx_value.specs.declared.ids.ObjId.{ObjId}
 use Rattle.actx_value.specs.declared.ids.ScopeId.{ScopeId}
 use Rattle.actx_value.specs.declared.value.Value.{Value}
-use Rattle.actx_value.specs.declared.value.Value.TheVariants.{Undefined, Null, Bool as Truth, Num, Text, Object, Scope, Mark}
+use Rattle.actx_value.specs.declared.value.Value.TheVariants.{Undefined, Num, Object}
 use Rattle.actx_value.specs.declared.error_kind.ErrorKind.TheVariants.{TypeError}
 use Rattle.actx_value.specs.declared.end.End.TheVariants as ends
-use Rattle.actx_code.specs.declared.body.BodyKind.{BodyKind}
-use Rattle.actx_code.specs.declared.body.BodyKind.TheVariants as bodies
 use Rattle.actx_code.specs.Codes.{Lists}
-use Rattle.actx_cells.specs.Scopes.{Scope as OneScope, new_scope, with_cell, held}
+use Rattle.actx_cells.specs.Scopes.{Scope as OneScope, new_scope, with_cell}
 use Rattle.actx_objects.specs.declared.kind.Kind.TheVariants.{Plain}
 use Rattle.actx_objects.specs.Objects.{made, proto_of}
 use Rattle.actx_request.specs.Outcomes.{Stores, with_objects, with_scopes, with_texts}
@@ -24,9 +22,9 @@ use Rattle.actx_request.specs.Lists.{next_object}
 use Rattle.actx_world.specs.declared.handed.BodyEnd.{BodyEnd}
 use Rattle.actx_world.specs.declared.handed.BodyEnd.TheVariants as after
 use Rattle.actx_world.specs.Setup.{Bodies, Builtins, Setup, NativeOutcome, NativeOut, Gives, Throws, OutOfProfile, Exits, Prints}
-use Rattle.actx_world.specs.Parts.{Part, Bound, with_part}
-use Rattle.actx_world.specs.State.{Activation, Due, Call, Construct, Item, Body, Do, State, pushed, with_stores, with_parts}
-use Rattle.actx_world.specs.Moves.{Oracle, Move, Next, On, Over, Unbuilt, Asker, Asked, Handing, quiet, adding, waiting, value_to, gives_to, throws_to}
+use Rattle.actx_world.specs.Parts.{Bound, with_part}
+use Rattle.actx_world.specs.State.{Activation, Call, Construct, Body, Do, State, pushed, with_stores, with_parts}
+use Rattle.actx_world.specs.Moves.{Oracle, Next, Over, Unbuilt, Asker, Asked, Handing, quiet, adding, waiting, value_to, gives_to, throws_to}
 use Rattle.actx_world.specs.Functions.{body_at, kind_at, flow_at, is_class, is_derived, Callee, NotCallable, OfProgram, OfBundle, OfBound, OfStore, OfMachine, OfLater, callee_of, callee_at, is_constructor, get, with_bound}
 use Rattle.actx_world.specs.Acts.{Act, Give, Refuse, Leave, Invoke, MakeBound, Execution, Trigger, Later, decide}
 

@@ -13,7 +13,7 @@ use Rattle.actx_cells.specs.Scopes.{count_of}
 use Rattle.actx_objects.specs.Objects.{property_count}
 use Rattle.actx_request.specs.Outcomes.{Stores}
 use Rattle.actx_world.specs.State.{Item, Body, Do, Reply, Hooks, Close, State}
-use Rattle.actx_world.specs.Moves.{Move, Next, On, TurnDue, Over, Unbuilt}
+use Rattle.actx_world.specs.Moves.{Next, On, TurnDue, Over, Unbuilt}
 
 -- ---- limits
 

@@ -28,8 +28,6 @@ use Rattle.actx_want.specs.Statements.{sequence, init, block, returned, thrown}
 use Rattle.actx_want.specs.Loops.{of_loop}
 use Rattle.actx_want.specs.Tries.{bound, try}
 use Rattle.actx_want.specs.Examples.{literal}
-use Rattle.actx_world.specs.Setup.{Setup}
-use Rattle.actx_world.specs.State.{State}
 use Rattle.actx_world.specs.Ends.{Most, Ends}
 use Rattle.actx_world.specs.Worlds.{World, world, Last, last_of, EndedBy, printed}
 use Rattle.actx_world.specs.SmallStore.{small_stores, small_limits, small_setup, doing, body}
@@ -109,10 +107,10 @@ derived_bodies form = file form ∷ body form Class 8 true 3 ∷ body form Deriv
 abbrev pub derived_meanings : List Meaning
 derived_meanings =
     block 2 [] (sequence (
-      init 0 (class (body_number 1) None (text_number 2) [])
-      ∷ init 1 (class (body_number 2) (Some (name 0 0)) (text_number 2) [])
-      ∷ new (name 0 1) (single (literal (Num (pos 1))) ∷ single (literal (Num (pos 2))) ∷ [])
-      ∷ []))
+    init 0 (class (body_number 1) None (text_number 2) [])
+    ∷ init 1 (class (body_number 2) (Some (name 0 0)) (text_number 2) [])
+    ∷ new (name 0 1) (single (literal (Num (pos 1))) ∷ single (literal (Num (pos 2))) ∷ [])
+    ∷ []))
     ∷ sequence []
     ∷ sequence (rest_parameter 0 (slot 3) ∷ super_call 0 (spread (name 0 3) ∷ []) ∷ [])
     ∷ []
@@ -132,10 +130,10 @@ arrow_bodies form = file form ∷ body form Class 8 true 3 ∷ body form Derived
 abbrev pub arrow_meanings : List Meaning
 arrow_meanings =
     block 2 [] (sequence (
-      init 0 (class (body_number 1) None (text_number 2) [])
-      ∷ init 1 (class (body_number 2) (Some (name 0 0)) (text_number 2) [])
-      ∷ new (name 0 1) []
-      ∷ []))
+    init 0 (class (body_number 1) None (text_number 2) [])
+    ∷ init 1 (class (body_number 2) (Some (name 0 0)) (text_number 2) [])
+    ∷ new (name 0 1) []
+    ∷ []))
     ∷ sequence []
     ∷ sequence (suffixes (function (body_number 3)) (call false [] ∷ []) ∷ [])
     ∷ returned (super_call 1 [])
@@ -181,9 +179,9 @@ pub record ThroughRuns (form : Form) : Type 0 where
 abbrev pub typed_meanings : List Meaning
 typed_meanings =
     sequence (
-      suffixes (name 0 0) (call false (single (unary unaries.TypeOf (function (body_number 1))) ∷ []) ∷ [])
-      ∷ suffixes (name 0 0) (call false (single (unary unaries.TypeOf (literal Null)) ∷ []) ∷ [])
-      ∷ [])
+    suffixes (name 0 0) (call false (single (unary unaries.TypeOf (function (body_number 1))) ∷ []) ∷ [])
+    ∷ suffixes (name 0 0) (call false (single (unary unaries.TypeOf (literal Null)) ∷ []) ∷ [])
+    ∷ [])
     ∷ returned (literal (Num (pos 1)))
     ∷ []
 

@@ -1,5 +1,5 @@
 -- Functions: what an object is called as, which are constructors, and the objects of new functions and classes.
-use Rattle.std.specs.Prelude.{ℕ, zero, suc, ◌++◌, Bool, true, false, not, ◌&&◌, ◌||◌, List, length, codes, slice_get, Option, Some, None, if◌then◌else◌, unwrap_or}
+use Rattle.std.specs.Prelude.{ℕ, zero, suc, ◌++◌, Bool, true, false, not, ◌&&◌, ◌||◌, List, length, codes, slice_get, Option, Some, None, if◌then◌else◌}
 use Rattle.std.specs.Option.{option_map_or}
 use Rattle.actx_text.specs.declared.body_id.BodyId.{BodyId}
 use Rattle.actx_tree.specs.declared.function.Flow.{Flow}
@@ -10,7 +10,7 @@ use Rattle.actx_value.specs.declared.ids.ScopeId.{ScopeId}
 use Rattle.actx_value.specs.declared.ids.TextId.{TextId}
 use Rattle.actx_value.specs.declared.value.Key.TheVariants.{Name}
 use Rattle.actx_value.specs.declared.value.Value.{Value}
-use Rattle.actx_value.specs.declared.value.Value.TheVariants.{Undefined, Null, Bool as Truth, Num, Text, Object, Scope, Mark}
+use Rattle.actx_value.specs.declared.value.Value.TheVariants.{Null, Text, Object}
 use Rattle.actx_value.specs.declared.caller_id.CallerId.{CallerId}
 use Rattle.actx_value.specs.declared.error_kind.ErrorKind.{ErrorKind}
 use Rattle.actx_value.specs.declared.error_kind.ErrorKind.TheVariants.{TypeError}
@@ -24,12 +24,11 @@ use Rattle.actx_objects.specs.declared.kind.Kind.{Kind}
 use Rattle.actx_objects.specs.declared.kind.Kind.TheVariants as kinds
 use Rattle.actx_objects.specs.Objects.{ObjectStore, made, proto_of}
 use Rattle.actx_objects.specs.Writes.{written}
-use Rattle.actx_request.specs.Outcomes.{Stores, stores, with_objects, with_texts}
+use Rattle.actx_request.specs.Outcomes.{Stores, with_objects, with_texts}
 use Rattle.actx_request.specs.Lists.{next_object}
 use Rattle.actx_request.specs.Members.{inherited}
 use Rattle.actx_world.specs.Setup.{Called, Native, Caller, Bundled, Builtins, Setup}
-use Rattle.actx_world.specs.Parts.{Part, Nothing, Closure, Bound, Resolver, Under, Scoped, part_at, with_part}
-use Rattle.actx_world.specs.State.{State}
+use Rattle.actx_world.specs.Parts.{Part, Closure, Bound, Resolver, Under, Scoped, part_at}
 
 -- ---- bodies by number; one that isn't in the code is as an empty one of a function without a name
 
@@ -165,7 +164,7 @@ abbrev pub function_objects : Setup → List (List ℕ) → BodyId → ObjectSto
 function_objects setup texts b objects =
     if is_plain_function setup.code b
     then with_prototype setup.builtins texts (next_object objects) (Some setup.builtins.home.object)
-        (function_object setup.builtins texts kinds.Function setup.builtins.function (name_at setup.code b) objects)
+    (function_object setup.builtins texts kinds.Function setup.builtins.function (name_at setup.code b) objects)
     else function_object setup.builtins texts kinds.Function setup.builtins.function (name_at setup.code b) objects
 
 -- the objects of a class: the class, and its prototype object (ClassDefinitionEvaluation, §15.7.14)

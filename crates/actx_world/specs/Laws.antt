@@ -1,5 +1,5 @@
 -- The laws of these definitions: statements that the contracts of the functions in `laws` prove.
-use Rattle.std.specs.Prelude.{◌≡◌, ℕ, ◌+◌, ◌≤◌, ◌<◌, true, List, [], ◌∷◌, Option, Some, None}
+use Rattle.std.specs.Prelude.{◌≡◌, ℕ, ◌+◌, ◌≤◌, ◌<◌, true, List, [], ◌∷◌, Some, None}
 use Rattle.actx_event.specs.declared.bracket.Bracket.{Bracket}
 use Rattle.actx_event.specs.declared.bracket.Open.{Open}
 use Rattle.actx_event.specs.Brackets.{opened, nests}

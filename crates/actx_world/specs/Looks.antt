@@ -16,7 +16,7 @@ use Rattle.actx_objects.specs.Objects.{ObjectStore, proto_of, value_of}
 use Rattle.actx_request.specs.declared.home.Home.{Home}
 use Rattle.actx_request.specs.Outcomes.{Stores, Outcome, gives, throws, leaves_profile}
 use Rattle.actx_request.specs.Members.{is_size}
-use Rattle.actx_world.specs.Setup.{Builtins, Setup, TypeWords}
+use Rattle.actx_world.specs.Setup.{Setup, TypeWords}
 use Rattle.actx_world.specs.Parts.{Part}
 use Rattle.actx_world.specs.Functions.{is_callable, target_of, get}
 

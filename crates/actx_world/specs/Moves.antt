@@ -1,8 +1,7 @@
 -- What one move is, what it may ask of the events so far, and how a completion reaches who waits for it.
-use Rattle.std.specs.Prelude.{ℕ, true, List, [], ◌∷◌, Option, Some, None}
+use Rattle.std.specs.Prelude.{ℕ, true, List, [], ◌∷◌, Some}
 use Rattle.actx_event.specs.declared.value.Shown.{Shown}
 use Rattle.actx_event.specs.declared.event.Event.{Event}
-use Rattle.actx_value.specs.declared.ids.ObjId.{ObjId}
 use Rattle.actx_value.specs.declared.value.Key.TheVariants.{Name}
 use Rattle.actx_value.specs.declared.value.Value.{Value}
 use Rattle.actx_value.specs.declared.value.Value.TheVariants as values
@@ -12,7 +11,7 @@ use Rattle.actx_value.specs.declared.error_kind.ErrorKind.{ErrorKind}
 use Rattle.actx_value.specs.declared.end.End.{End}
 use Rattle.actx_value.specs.declared.end.End.TheVariants as ends
 use Rattle.actx_objects.specs.declared.kind.Kind.TheVariants.{Error}
-use Rattle.actx_objects.specs.Objects.{ObjectStore, made}
+use Rattle.actx_objects.specs.Objects.{made}
 use Rattle.actx_objects.specs.Writes.{written}
 use Rattle.actx_request.specs.declared.given.Given.{Given}
 use Rattle.actx_request.specs.declared.given.Given.TheVariants as given
@@ -21,7 +20,7 @@ use Rattle.actx_request.specs.Lists.{next_object}
 use Rattle.actx_world.specs.declared.handed.Handed.{Handed}
 use Rattle.actx_world.specs.declared.handed.Handed.TheVariants.{Gives, Throws}
 use Rattle.actx_world.specs.Setup.{Bodies, Builtins}
-use Rattle.actx_world.specs.State.{Activation, Item, Body, Do, State, pushed, with_stores, with_hand}
+use Rattle.actx_world.specs.State.{Activation, Body, State, pushed, with_stores, with_hand}
 
 -- what a move may ask of the events so far: reads of variables, the execution identifier and its trigger, and how many
 -- resources, captures and variables were made

@@ -1,5 +1,5 @@
 -- The inner parts of objects: what an object holds beside its properties (internal slots, ECMA-262 §6.1.7.2).
-use Rattle.std.specs.Prelude.{ℕ, suc, ◌-◌, Bool, List, [], ◌∷◌, ◌++◌, length, replicate, slice_get, slice_set, unwrap_or}
+use Rattle.std.specs.Prelude.{ℕ, suc, ◌-◌, Bool, List, ◌++◌, length, replicate, slice_get, slice_set, unwrap_or}
 use Rattle.actx_text.specs.declared.body_id.BodyId.{BodyId}
 use Rattle.actx_value.specs.declared.ids.ObjId.{ObjId}
 use Rattle.actx_value.specs.declared.ids.ScopeId.{ScopeId}

@@ -1,19 +1,17 @@
 -- What comes next in a state: the first row that fits. A row sees the state without the top item and with an empty hand.
-use Rattle.std.specs.Prelude.{ℕ, ◌&&◌, Bool, true, false, List, [], ◌∷◌, codes, Option, Some, None, if◌then◌else◌}
-use Rattle.actx_text.specs.declared.body_id.BodyId.{BodyId}
+use Rattle.std.specs.Prelude.{◌&&◌, Bool, true, false, List, [], ◌∷◌, codes, Option, Some, None, if◌then◌else◌}
 use Rattle.actx_event.specs.declared.event.Event.{Event}
 use Rattle.actx_event.specs.declared.event.Event.TheVariants.{Init, Before, After, Leave, Unbind}
 use Rattle.actx_event.specs.declared.bracket.Bracket.{Bracket}
 use Rattle.actx_event.specs.declared.bracket.Bracket.TheVariants.{Running, Entered, Bound}
-use Rattle.actx_value.specs.declared.value.Value.{Value}
 use Rattle.actx_value.specs.declared.end.End.TheVariants as ends
 use Rattle.actx_world.specs.declared.handed.Handed.{Handed}
-use Rattle.actx_world.specs.declared.handed.Handed.TheVariants.{Gives, Throws}
+use Rattle.actx_world.specs.declared.handed.Handed.TheVariants.{Throws}
 use Rattle.actx_world.specs.declared.handed.BodyEnd.TheVariants as after
-use Rattle.actx_world.specs.Setup.{Bodies, Builtins, Setup}
+use Rattle.actx_world.specs.Setup.{Bodies, Setup}
 use Rattle.actx_world.specs.Kept.{Resource}
-use Rattle.actx_world.specs.State.{Activation, Due, Main, Call, Construct, Item, Body, Do, Reply, Hooks, Close, State, pushed, with_hand}
-use Rattle.actx_world.specs.Moves.{Oracle, Move, Next, On, Over, Unbuilt, Asked, Handing, quiet, adding, handed_to}
+use Rattle.actx_world.specs.State.{Activation, Due, Main, Call, Construct, Item, Body, Do, Reply, Hooks, Close, State, pushed}
+use Rattle.actx_world.specs.Moves.{Oracle, Next, On, Over, Unbuilt, Asked, Handing, quiet, adding, handed_to}
 use Rattle.actx_world.specs.Calls.{row_call, row_construct}
 use Rattle.actx_world.specs.Wishes.{row_wants}
 

@@ -1,17 +1,13 @@
 -- A small store for the examples: a few built-in objects and texts that stand in for all of them.
-use Rattle.std.specs.Prelude.{ℕ, ◌==◌, Bool, true, false, List, [], ◌∷◌, codes, slice_get, Option, Some, None, if◌then◌else◌}
-use Rattle.actx_text.specs.declared.body_id.BodyId.{BodyId}
+use Rattle.std.specs.Prelude.{ℕ, Bool, true, false, List, [], ◌∷◌, codes, slice_get, Option, Some, None}
 use Rattle.actx_tree.specs.declared.function.Flow.TheVariants as flows
 use Rattle.actx_value.specs.Texts.{text_at}
-use Rattle.actx_value.specs.declared.ids.ObjId.{ObjId}
 use Rattle.actx_value.specs.declared.ids.ScopeId.{ScopeId}
-use Rattle.actx_value.specs.declared.ids.TextId.{TextId}
 use Rattle.actx_value.specs.declared.caller_id.CallerId.TheVariants as callers
 use Rattle.actx_value.specs.declared.value.Key.{Key}
 use Rattle.actx_value.specs.declared.value.Key.TheVariants.{Name}
 use Rattle.actx_value.specs.declared.value.Value.{Value}
-use Rattle.actx_value.specs.declared.value.Value.TheVariants.{Undefined, Null, Bool as Truth, Num, Text, Object, Scope, Mark}
-use Rattle.actx_code.specs.Codes.{Lists}
+use Rattle.actx_value.specs.declared.value.Value.TheVariants.{Undefined, Text, Object}
 use Rattle.actx_code.specs.declared.body.Body.{Body}
 use Rattle.actx_code.specs.declared.body.BodyKind.{BodyKind}
 use Rattle.actx_code.specs.declared.form.Form.{Form}
@@ -23,8 +19,8 @@ use Rattle.actx_objects.specs.declared.kind.Kind.TheVariants as kinds
 use Rattle.actx_request.specs.Outcomes.{Stores}
 use Rattle.actx_want.specs.Run.{Run, Meaning}
 use Rattle.actx_want.specs.Bodies.{end_of}
-use Rattle.actx_want.specs.Run.{Wants, Returns}
-use Rattle.actx_world.specs.Setup.{Bodies, Called, Native, Caller, Builtins, Setup, NativeOut, Gives, Prints, NativeOutcome}
+use Rattle.actx_want.specs.Run.{Returns}
+use Rattle.actx_world.specs.Setup.{Bodies, Called, Native, Caller, Builtins, Setup, Prints}
 use Rattle.actx_world.specs.Ends.{Most}
 
 -- ---- objects and texts

@@ -1,5 +1,5 @@
 -- The state of a run but for its events, over any way to keep a running body.
-use Rattle.std.specs.Prelude.{ℕ, Bool, List, [], ◌∷◌, Option, Some}
+use Rattle.std.specs.Prelude.{ℕ, Bool, List, ◌∷◌, Option, Some}
 use Rattle.actx_event.specs.declared.bracket.Bracket.{Bracket}
 use Rattle.actx_event.specs.Noted.{Noted}
 use Rattle.actx_value.specs.declared.ids.ObjId.{ObjId}

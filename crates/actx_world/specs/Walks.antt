@@ -5,15 +5,15 @@ use Rattle.actx_value.specs.Texts.{text_at, with_text, added_number}
 use Rattle.actx_value.specs.declared.ids.ObjId.{ObjId}
 use Rattle.actx_value.specs.declared.value.Key.TheVariants.{Index}
 use Rattle.actx_value.specs.declared.value.Value.{Value}
-use Rattle.actx_value.specs.declared.value.Value.TheVariants.{Undefined, Null, Bool as Truth, Num, Text, Object, Scope, Mark}
+use Rattle.actx_value.specs.declared.value.Value.TheVariants.{Undefined, Text, Object, Mark}
 use Rattle.actx_value.specs.declared.error_kind.ErrorKind.TheVariants.{TypeError}
 use Rattle.actx_objects.specs.declared.kind.Kind.{Kind}
 use Rattle.actx_objects.specs.declared.kind.Kind.TheVariants as kinds
 use Rattle.actx_objects.specs.Objects.{kind_of, size_of, own_of, entry_from, made}
 use Rattle.actx_request.specs.declared.home.Home.{Home}
-use Rattle.actx_request.specs.Outcomes.{Stores, Outcome, with_objects, with_texts}
+use Rattle.actx_request.specs.Outcomes.{Stores, with_objects, with_texts}
 use Rattle.actx_request.specs.Lists.{next_object, array_of}
-use Rattle.actx_world.specs.Setup.{Bodies, Builtins, Setup}
+use Rattle.actx_world.specs.Setup.{Bodies, Setup}
 use Rattle.actx_world.specs.Parts.{Part, Walk, part_at, with_part}
 use Rattle.actx_world.specs.State.{Activation, State, with_stores, with_parts}
 use Rattle.actx_world.specs.Moves.{Next, Unbuilt, Asked, gives_to, throws_to}

@@ -1,10 +1,10 @@
 -- What a body leads to by what it wants: a request, or its end.
-use Rattle.std.specs.Prelude.{ℕ, List, [], Option, Some, None}
+use Rattle.std.specs.Prelude.{ℕ, List, Option, Some, None}
 use Rattle.actx_text.specs.declared.body_id.BodyId.{BodyId}
 use Rattle.actx_value.specs.declared.ids.ObjId.{ObjId}
 use Rattle.actx_value.specs.declared.ids.ScopeId.{ScopeId}
 use Rattle.actx_value.specs.declared.value.Value.{Value}
-use Rattle.actx_value.specs.declared.value.Value.TheVariants.{Undefined, Null, Bool as Truth, Num, Text, Object, Scope, Mark}
+use Rattle.actx_value.specs.declared.value.Value.TheVariants.{Undefined, Object}
 use Rattle.actx_value.specs.declared.request.Request.{Request}
 use Rattle.actx_value.specs.declared.request.Request.TheVariants as requests
 use Rattle.actx_value.specs.declared.operator.UnaryOp.TheVariants as unary
@@ -13,15 +13,15 @@ use Rattle.actx_value.specs.declared.error_kind.ErrorKind.TheVariants.{TypeError
 use Rattle.actx_value.specs.declared.end.End.TheVariants as ends
 use Rattle.actx_cells.specs.Scopes.{cell_of}
 use Rattle.actx_objects.specs.declared.kind.Kind.TheVariants as kinds
-use Rattle.actx_request.specs.Outcomes.{Stores, Outcome, with_objects}
+use Rattle.actx_request.specs.Outcomes.{Stores, with_objects}
 use Rattle.actx_request.specs.Lists.{next_object}
 use Rattle.actx_request.specs.Answers.{outcome_of}
 use Rattle.actx_want.specs.Run.{Wants, Asks, Returns, Throws}
 use Rattle.actx_world.specs.declared.handed.Handed.TheVariants as hand
 use Rattle.actx_world.specs.declared.handed.BodyEnd.{BodyEnd}
 use Rattle.actx_world.specs.declared.handed.BodyEnd.TheVariants as after
-use Rattle.actx_world.specs.Setup.{Bodies, Builtins, Setup}
-use Rattle.actx_world.specs.Parts.{Part, Closure, with_part}
+use Rattle.actx_world.specs.Setup.{Bodies, Setup}
+use Rattle.actx_world.specs.Parts.{Closure, with_part}
 use Rattle.actx_world.specs.State.{Activation, State, with_stores, with_parts, with_hand}
 use Rattle.actx_world.specs.Moves.{Oracle, Next, Over, Asked, Handing, quiet, gives_to, throws_to, outcome_to}
 use Rattle.actx_world.specs.Functions.{function_object, function_objects, class_objects, name_at, Heritage, Extends, Refuses, Leaves, heritage_of}
@@ -47,8 +47,8 @@ module _ {B : Type 0} (bodies : Bodies B) (setup : Setup) where
   row_method a b scope home s =
       gives_to bodies (Asked a) (Object (next_object s.stores.objects))
       (with_stores
-        (with_objects (function_object setup.builtins s.stores.texts.texts kinds.Function setup.builtins.function (name_at setup.code b) s.stores.objects) s.stores)
-        (closure_made b scope home s))
+      (with_objects (function_object setup.builtins s.stores.texts.texts kinds.Function setup.builtins.function (name_at setup.code b) s.stores.objects) s.stores)
+      (closure_made b scope home s))
 
   -- Class (ClassDefinitionEvaluation, §15.7.14): the home object of the constructor is the prototype object, which is made
   -- right after the class
@@ -59,8 +59,8 @@ module _ {B : Type 0} (bodies : Bodies B) (setup : Setup) where
   class_of a b scope (Extends constructor_parent prototype_parent) s =
       gives_to bodies (Asked a) (Object (next_object s.stores.objects))
       (with_stores
-        (with_objects (class_objects setup s.stores.texts.texts b constructor_parent prototype_parent s.stores.objects) s.stores)
-        (closure_made b scope (class_home s.stores) s))
+      (with_objects (class_objects setup s.stores.texts.texts b constructor_parent prototype_parent s.stores.objects) s.stores)
+      (closure_made b scope (class_home s.stores) s))
   class_of a b scope (Refuses e) s = throws_to bodies setup.builtins (Asked a) e s
   class_of a b scope (Leaves r) s = Over (ends.OutOfProfile r)
 

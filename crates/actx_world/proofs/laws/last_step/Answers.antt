@@ -1,5 +1,3 @@
-use Rattle.actx_want.specs.Run.{Run}
-use Rattle.actx_world.specs.Rests.{Replay}
 use Rattle.actx_world.proofs.LastSteps.{last_is_first, ended_stays}
 use Rattle.actx_world.proofs.laws.last_step.Goals as goal
 

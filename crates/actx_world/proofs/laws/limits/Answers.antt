@@ -1,5 +1,3 @@
-use Rattle.actx_want.specs.Run.{Run}
-use Rattle.actx_world.specs.Rests.{Replay}
 use Rattle.actx_world.proofs.LastSteps.{limits_hold, requests_meet}
 use Rattle.actx_world.proofs.laws.limits.Goals as goal
 

@@ -1,5 +1,3 @@
-use Rattle.actx_want.specs.Run.{Run}
-use Rattle.actx_world.specs.Rests.{Replay}
 use Rattle.actx_world.proofs.Nests.{nests_after}
 use Rattle.actx_world.proofs.laws.nesting.Goals as goal
 

@@ -1,5 +1,3 @@
-use Rattle.actx_want.specs.Run.{Run}
-use Rattle.actx_world.specs.Rests.{Replay}
 use Rattle.actx_world.proofs.Oracles.{same_after}
 use Rattle.actx_world.proofs.laws.same_events.Goals as goal
 

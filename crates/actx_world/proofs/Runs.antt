@@ -6,10 +6,12 @@ use Rattle.actx_text.specs.Utf8.{utf8_of}
 use Rattle.actx_text.specs.Utf16.{scalars_of}
 use Rattle.actx_event.specs.Walk.{met_binding}
 use Rattle.actx_want.specs.Run.{turns, loop}
-use Rattle.actx_want.specs.Lists.{listed}
+use Rattle.actx_want.specs.Lists.{listed, filled}
 use Rattle.actx_want.specs.Members.{suffixed}
+use Rattle.actx_want.specs.Operators.{chained}
 use Rattle.actx_want.specs.Classes.{stands_on_prototype, members_of}
 use Rattle.actx_want.specs.Statements.{sequenced, declared_of}
+use Rattle.actx_world.specs.FileExamples.{FilesRun}
 use Rattle.actx_world.specs.Examples.{EmptyFileRuns, ClassRuns, DerivedClassRuns, FunctionRuns, ArrowRuns, BoundRuns, ThroughRuns, TypedRuns, WalkRuns, CaughtRuns, ThrownRuns}
 
 pub empty_runs : (form : Form) → EmptyFileRuns form
@@ -55,3 +57,7 @@ through_runs form = record { called = refl; applied = refl }
 pub typed_runs : (form : Form) → TypedRuns form
 unfolding met_binding sequenced listed suffixed utf8_of scalars_of
 typed_runs form = record { ends = refl; text = refl }
+
+pub files_run : (form : Form) → FilesRun form
+unfolding digits met_binding sequenced listed suffixed filled chained stands_on_prototype members_of declared_of
+files_run form = record { with_super = refl; with_constructors = refl; with_this = refl }

@@ -54,7 +54,7 @@ prototype_of w n = proto_of w.state.stores.objects (made_object n)
 -- how many objects, properties, and scopes with their cells the run made
 pub record Made (w : World Run) (o p c : ℕ) : Type 0 where
   pub objects : length w.state.stores.objects.objects ≡ 8 + o
-  pub properties : property_count w.state.stores.objects.objects ≡ 3 + p
+  pub properties : property_count w.state.stores.objects.objects ≡ 4 + p
   pub cells : count_of w.state.stores.cells.scopes ≡ 2 + c
 
 abbrev pub finished : ℕ → Last

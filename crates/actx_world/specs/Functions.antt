@@ -159,7 +159,7 @@ with_prototype builtins texts f proto objects =
     hidden texts (next_object objects) builtins.constructor (Object f)
     (hidden texts f builtins.prototype (Object (next_object objects)) (made objects kinds.Plain proto))
 
--- the objects of a function: one, or two where it has a `prototype` (InstantiateFunctionObject, §10.2.11, §15.2.4)
+-- the objects of a function: one, or two where it has a `prototype` (InstantiateFunctionObject §8.6.1, §15.2.4)
 abbrev pub function_objects : Setup → List (List ℕ) → BodyId → ObjectStore → ObjectStore
 function_objects setup texts b objects =
     if is_plain_function setup.code b

@@ -17,3 +17,4 @@ pub mod Keeping
 pub mod Laws
 pub mod SmallStore
 pub mod Examples
+pub mod FileExamples

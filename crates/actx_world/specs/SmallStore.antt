@@ -32,6 +32,16 @@ built_in kind = record { kind = kind; proto = None; frozen = true; props = []; e
 abbrev property : ℕ → ℕ → Key × Prop
 property name o = (Name (record { 0 = name }), record { value = Object (record { 0 = o }); hidden = true })
 
+-- a function that prints a text, and is its own member `log`
+abbrev printing : AnObject
+printing = record {
+  kind = kinds.Native;
+  proto = None;
+  frozen = true;
+  props = property 16 4 ∷ [];
+  entries = record { standing = []; places = 0 };
+}
+
 abbrev functions : AnObject
 functions = record {
   kind = kinds.Plain;
@@ -48,13 +58,14 @@ small_stores = record {
   objects = record {
     objects =
         built_in kinds.Plain ∷ functions ∷ built_in kinds.Plain ∷ built_in kinds.Plain
-        ∷ built_in kinds.Native ∷ built_in kinds.Native ∷ built_in kinds.Native ∷ built_in kinds.Native ∷ [];
+        ∷ printing ∷ built_in kinds.Native ∷ built_in kinds.Native ∷ built_in kinds.Native ∷ [];
     most_objects = 0;
     most_properties = 0;
   };
   texts = record {
     texts = codes "" ∷ codes "name" ∷ codes "prototype" ∷ codes "constructor" ∷ codes "message" ∷ codes "length" ∷ codes "size" ∷ codes "bad" ∷ codes "A" ∷ codes "n" ∷ codes "hi"
-        ∷ codes "call" ∷ codes "apply" ∷ codes "bind" ∷ codes "object" ∷ codes "function" ∷ [];
+        ∷ codes "call" ∷ codes "apply" ∷ codes "bind" ∷ codes "object" ∷ codes "function"
+        ∷ codes "log" ∷ codes "v" ∷ codes "k" ∷ codes "get" ∷ [];
     limit = 0;
   };
   cells = record {

@@ -2,6 +2,7 @@
 //! in the code, since what the bodies do is written down beside them.
 
 ghost use Rattle.actx_code.specs.declared.form.Form.{Form};
+ghost use Rattle.actx_world.specs.FileExamples.{FilesRun};
 ghost use Rattle.actx_world.specs.Examples.{EmptyFileRuns, ClassRuns, DerivedClassRuns, FunctionRuns, ArrowRuns, BoundRuns, ThroughRuns, TypedRuns, WalkRuns, CaughtRuns, ThrownRuns};
 
 /// An empty file is three moves: the Do, the end of its body, and the end of its bracket.
@@ -59,4 +60,10 @@ pub fn an_error_is_caught()
 /// `print('hi'); throw 7;` ends after four moves by what was thrown; the line is printed.
 pub fn a_throw_ends_the_run()
     ensures { (form : Form) → ThrownRuns form }
+{}
+
+/// Three files, with `super` in arrows and a constructor that gives an object, with functions as
+/// constructors, and with several values of `this`, are 67, 60 and 68 moves.
+pub fn files_of_several_functions()
+    ensures { (form : Form) → FilesRun form }
 {}

@@ -59,5 +59,5 @@ unfolding met_binding sequenced listed suffixed utf8_of scalars_of
 typed_runs form = record { ends = refl; text = refl }
 
 pub files_run : (form : Form) → FilesRun form
-unfolding digits met_binding sequenced listed suffixed filled chained stands_on_prototype members_of declared_of
-files_run form = record { with_super = refl; with_constructors = refl; with_this = refl }
+unfolding digits met_binding sequenced listed suffixed filled chained stands_on_prototype members_of declared_of utf8_of scalars_of
+files_run form = record { with_super = refl; with_super_prints = refl; with_constructors = refl; with_constructors_prints = refl; with_this = refl; with_this_prints = refl }

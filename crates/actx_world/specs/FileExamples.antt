@@ -1,5 +1,5 @@
 -- Worked runs of files with several functions and classes.
-use Rattle.std.specs.Prelude.{◌≡◌, ℕ, pos, true, false, List, [], ◌∷◌, Option, Some, None}
+use Rattle.std.specs.Prelude.{◌≡◌, ℕ, pos, true, false, List, [], ◌∷◌, codes, Option, Some, None}
 use Rattle.actx_value.specs.declared.operator.BinaryOp.TheVariants.{StrictlyEqual, InstanceOf}
 use Rattle.actx_value.specs.declared.operator.UnaryOp.TheVariants.{TypeOf}
 use Rattle.actx_value.specs.declared.value.Value.{Value}
@@ -20,9 +20,9 @@ use Rattle.actx_want.specs.Patterns.{slot}
 use Rattle.actx_want.specs.Classes.{class}
 use Rattle.actx_want.specs.Statements.{sequence, init, block, returned}
 use Rattle.actx_want.specs.Examples.{literal}
-use Rattle.actx_world.specs.Worlds.{Last}
+use Rattle.actx_world.specs.Worlds.{Last, printed}
 use Rattle.actx_world.specs.SmallStore.{small_limits, body}
-use Rattle.actx_world.specs.Examples.{end_within, finished, body_number, text_number, file}
+use Rattle.actx_world.specs.Examples.{run, end_within, finished, body_number, text_number, file}
 
 -- the end of a run with a budget of 80 moves
 abbrev pub end : List Body → List Meaning → Last
@@ -135,7 +135,12 @@ this_meanings =
     ∷ returned (name 1 0)
     ∷ []
 
+-- ---- how they end, and what they print; `?` is an object
+
 pub record FilesRun (form : Form) : Type 0 where
   pub with_super : end (super_bodies form) super_meanings ≡ finished 67
+  pub with_super_prints : printed (run (super_bodies form) super_meanings 67).events ≡ codes "?\n?\n"
   pub with_constructors : end (constructor_bodies form) constructor_meanings ≡ finished 60
+  pub with_constructors_prints : printed (run (constructor_bodies form) constructor_meanings 60).events ≡ codes "5 true ?\n? 9\n"
   pub with_this : end (this_bodies form) this_meanings ≡ finished 68
+  pub with_this_prints : printed (run (this_bodies form) this_meanings 68).events ≡ codes "undefined true true 5 null n\n"

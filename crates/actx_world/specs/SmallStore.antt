@@ -1,7 +1,6 @@
 -- A small store for the examples: a few built-in objects and texts that stand in for all of them.
-use Rattle.std.specs.Prelude.{ℕ, Bool, true, false, List, [], ◌∷◌, codes, slice_get, Option, Some, None}
+use Rattle.std.specs.Prelude.{◌++◌, unwrap_or, ℕ, Bool, true, false, List, [], ◌∷◌, codes, slice_get, Option, Some, None}
 use Rattle.actx_tree.specs.declared.function.Flow.TheVariants as flows
-use Rattle.actx_value.specs.Texts.{text_at}
 use Rattle.actx_value.specs.declared.ids.ScopeId.{ScopeId}
 use Rattle.actx_value.specs.declared.caller_id.CallerId.TheVariants as callers
 use Rattle.actx_value.specs.declared.value.Key.{Key}
@@ -11,6 +10,7 @@ use Rattle.actx_value.specs.declared.value.Value.TheVariants.{Undefined, Text, O
 use Rattle.actx_code.specs.declared.body.Body.{Body}
 use Rattle.actx_code.specs.declared.body.BodyKind.{BodyKind}
 use Rattle.actx_code.specs.declared.form.Form.{Form}
+use Rattle.actx_ops.specs.Conversions.{text_of_value}
 use Rattle.actx_cells.specs.Scopes.{held}
 use Rattle.actx_objects.specs.declared.object.Object.{Object as AnObject}
 use Rattle.actx_objects.specs.declared.props.Prop.{Prop}
@@ -32,7 +32,7 @@ built_in kind = record { kind = kind; proto = None; frozen = true; props = []; e
 abbrev property : ℕ → ℕ → Key × Prop
 property name o = (Name (record { 0 = name }), record { value = Object (record { 0 = o }); hidden = true })
 
--- a function that prints a text, and is its own member `log`
+-- a function that prints, and is its own member `log`
 abbrev printing : AnObject
 printing = record {
   kind = kinds.Native;
@@ -51,7 +51,7 @@ functions = record {
   entries = record { standing = []; places = 0 };
 }
 
--- the prototypes of objects, functions, arrays and errors; a function that prints a text; and `call`, `apply` and `bind` of
+-- the prototypes of objects, functions, arrays and errors; a function that prints; and `call`, `apply` and `bind` of
 -- functions
 abbrev pub small_stores : Stores
 small_stores = record {
@@ -76,13 +76,14 @@ small_stores = record {
 
 -- ---- built-in functions
 
-abbrev text_of : List (List ℕ) → Value → List ℕ
-text_of texts (Text t) = text_at texts t.0
-text_of texts v = []
+-- primitives as their texts, with a space between them; `?` for an object
+abbrev shown : List (List ℕ) → Value → List ℕ
+shown texts v = unwrap_or (text_of_value texts v) (codes "?")
 
-abbrev printed_text : List (List ℕ) → List Value → List ℕ
-printed_text texts [] = []
-printed_text texts (v ∷ vs) = text_of texts v
+abbrev printed_texts : List (List ℕ) → List Value → List ℕ
+printed_texts texts [] = []
+printed_texts texts (v ∷ []) = shown texts v
+printed_texts texts (v ∷ w ∷ vs) = shown texts v ++ 32 ∷ printed_texts texts (w ∷ vs)
 
 -- what the objects are called as
 abbrev small_table : List (Option Called)
@@ -93,7 +94,7 @@ small_table =
 abbrev pub small_builtins : Builtins
 small_builtins = record {
   called_as = λ o. held (slice_get small_table o.0);
-  native = λ o this arguments target s. record { out = Prints (printed_text s.texts.texts arguments); stores = s };
+  native = λ o this arguments target s. record { out = Prints (printed_texts s.texts.texts arguments); stores = s };
   constructs = λ o. false;
   extends = λ o. false;
   home = record {

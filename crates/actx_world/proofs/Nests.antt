@@ -1,5 +1,6 @@
--- Every move keeps the brackets.
-use Rattle.std.proofs.Common.{ℕ, zero, suc, Bool, true, false, List, [], ◌∷◌, Option, Some, None, if◌then◌else◌, refl}
+-- Every move keeps the brackets, and a stack that stands well.
+use Rattle.std.proofs.Common.{◌≡◌, ℕ, zero, suc, ◌+◌, Bool, true, false, List, [], ◌∷◌, ◌++◌, Option, Some, None, if◌then◌else◌, refl, sym, ap, ◌∙◌, arith}
+use Rattle.std.proofs.lemmas.List.{append_assoc}
 use Rattle.actx_text.specs.declared.body_id.BodyId.{BodyId}
 use Rattle.actx_event.specs.declared.event.Event.{Event}
 use Rattle.actx_event.specs.declared.bracket.Bracket.{Bracket}
@@ -29,50 +30,50 @@ use Rattle.actx_world.specs.Functions.{Heritage, Extends, Refuses, Leaves, herit
 use Rattle.actx_world.specs.Walks.{Walked, Walkable, LaterWalk, NotIterable, walked_as, Stepped, NoneLeft, walk_step, walk_part, with_walk, opened_walk, open_as, row_stepped, next_of_part, close_of_part}
 use Rattle.actx_world.specs.Looks.{type_of, is_in, is_instance}
 use Rattle.actx_world.specs.Wishes.{class_of, row_request, this_or_error, end_of_constructor, end_of_derived, row_return, row_wants}
-use Rattle.actx_world.specs.Rows.{row_do, closing_by, is_quiet, row_body, row_item, popped, next_by, next}
+use Rattle.actx_world.specs.Rows.{row_main, row_do, closing_by, is_quiet, row_body, row_item, popped, next_by}
 use Rattle.actx_world.specs.Ends.{Most, Ended}
 use Rattle.actx_world.specs.Worlds.{walked, World, moved_by, next_of, end_of, world}
-use Rattle.actx_world.specs.Laws.{NestsAfter}
-use Rattle.actx_world.proofs.KeptBrackets.{Nested, Keeps, keeps_closing, keeps_handed, keeps_gives, keeps_throws, keeps_given}
+use Rattle.actx_world.specs.Laws.{NestsAfter, IsGround, IsBelow, StandsWell}
+use Rattle.actx_world.proofs.KeptBrackets.{Nested, Stands, Ready, Keeps, body_on, hand_on, keeps_closing, keeps_handed, keeps_gives, keeps_throws, keeps_given}
 use Rattle.actx_world.proofs.CallRows.{keeps_call, keeps_construct, keeps_new, keeps_super}
 
 module _ {B : Type 0} (bodies : Bodies B) (setup : Setup) where
-  keeps_outcome : (a : Activation B) (o : Outcome) (s : State B) (es : List Event) → Nested s.stack es → Keeps es (outcome_to bodies setup.builtins a o s)
+  keeps_outcome : (a : Activation B) (o : Outcome) (s : State B) (es : List Event) → Ready s.stack s.hand es → Keeps es (outcome_to bodies setup.builtins a o s)
   keeps_outcome a o s es n = keeps_given bodies setup.builtins a o.given (with_stores o.stores s) es n
 
   -- ---- walks
 
-  keeps_open : (a : Activation B) (v : Value) (w : Walked) (s : State B) (es : List Event) → Nested s.stack es → Keeps es (open_as bodies setup a v w s)
+  keeps_open : (a : Activation B) (v : Value) (w : Walked) (s : State B) (es : List Event) → Ready s.stack s.hand es → Keeps es (open_as bodies setup a v w s)
   keeps_open a v Walkable s es n = keeps_gives bodies (Asked a) _ (opened_walk bodies setup v s) es n
   keeps_open a v LaterWalk s es n = tt
   keeps_open a v NotIterable s es n = keeps_throws bodies setup.builtins (Asked a) (TypeError 2) s es n
 
-  keeps_stepped : (a : Activation B) (walk of : Value) (t : Stepped) (s : State B) (es : List Event) → Nested s.stack es → Keeps es (row_stepped bodies setup a walk of t s)
+  keeps_stepped : (a : Activation B) (walk of : Value) (t : Stepped) (s : State B) (es : List Event) → Ready s.stack s.hand es → Keeps es (row_stepped bodies setup a walk of t s)
   keeps_stepped a walk of (Stepped.Item v place stores) s es n = keeps_gives bodies (Asked a) v (with_parts (with_walk walk of place s.parts) (with_stores stores s)) es n
   keeps_stepped a walk of NoneLeft s es n = keeps_gives bodies (Asked a) _ s es n
 
-  keeps_next_walk : (a : Activation B) (walk : Value) (p : Part) (s : State B) (es : List Event) → Nested s.stack es → Keeps es (next_of_part bodies setup a walk p s)
+  keeps_next_walk : (a : Activation B) (walk : Value) (p : Part) (s : State B) (es : List Event) → Ready s.stack s.hand es → Keeps es (next_of_part bodies setup a walk p s)
   keeps_next_walk a walk (Walk of place) s es n = keeps_stepped a walk of (walk_step setup.builtins.home s.stores of place) s es n
   keeps_next_walk a walk (Part.Coroutine coroutine) s es n = tt
   keeps_next_walk a walk part s es n = keeps_gives bodies (Asked a) _ s es n
 
-  keeps_close_walk : (a : Activation B) (p : Part) (s : State B) (es : List Event) → Nested s.stack es → Keeps es (close_of_part bodies setup a p s)
+  keeps_close_walk : (a : Activation B) (p : Part) (s : State B) (es : List Event) → Ready s.stack s.hand es → Keeps es (close_of_part bodies setup a p s)
   keeps_close_walk a (Part.Coroutine coroutine) s es n = tt
   keeps_close_walk a part s es n = keeps_gives bodies (Asked a) _ s es n
 
   -- ---- requests
 
-  keeps_class : (a : Activation B) (b : BodyId) (scope : ScopeId) (h : Heritage) (s : State B) (es : List Event) → Nested s.stack es → Keeps es (class_of bodies setup a b scope h s)
-  keeps_class a b scope (Extends c p) s es n = record { open_ones = n.open_ones; nests = n.nests }
+  keeps_class : (a : Activation B) (b : BodyId) (scope : ScopeId) (h : Heritage) (s : State B) (es : List Event) → Ready s.stack s.hand es → Keeps es (class_of bodies setup a b scope h s)
+  keeps_class a b scope (Extends c p) s es n = body_on _ s.hand s.hand s.stack es n
   keeps_class a b scope (Refuses e) s es n = keeps_throws bodies setup.builtins (Asked a) e s es n
   keeps_class a b scope (Leaves r) s es n = tt
 
-  keeps_request : (oracle : Oracle) (a : Activation B) (r : Request) (list : List Value) (s : State B) (es : List Event) → Nested s.stack es → Keeps es (row_request bodies setup oracle a r list s)
+  keeps_request : (oracle : Oracle) (a : Activation B) (r : Request) (list : List Value) (s : State B) (es : List Event) → Ready s.stack s.hand es → Keeps es (row_request bodies setup oracle a r list s)
   keeps_request oracle a (requests.Unary unary.TypeOf v) list s es n = keeps_outcome a (type_of setup s.parts v s.stores) s es n
   keeps_request oracle a (requests.Binary binary.In v w) list s es n = keeps_outcome a (is_in setup v w s.stores) s es n
   keeps_request oracle a (requests.Binary binary.InstanceOf v w) list s es n = keeps_outcome a (is_instance setup s.parts v w s.stores) s es n
-  keeps_request oracle a (requests.Function b scope) list s es n = record { open_ones = n.open_ones; nests = n.nests }
-  keeps_request oracle a (requests.Method b scope home) list s es n = record { open_ones = n.open_ones; nests = n.nests }
+  keeps_request oracle a (requests.Function b scope) list s es n = body_on _ s.hand s.hand s.stack es n
+  keeps_request oracle a (requests.Method b scope home) list s es n = body_on _ s.hand s.hand s.stack es n
   keeps_request oracle a (requests.Class b scope parent) list s es n = keeps_class a b scope (heritage_of setup s.parts s.stores parent) s es n
   keeps_request oracle a (requests.Call callee this) list s es n = keeps_call bodies setup oracle (Asked a) callee this list s es n
   keeps_request oracle a (requests.New callee) list s es n = keeps_new bodies setup a callee list s es n
@@ -87,72 +88,111 @@ module _ {B : Type 0} (bodies : Bodies B) (setup : Setup) where
 
   -- ---- ends of bodies
 
-  keeps_this : (o : Option Value) (s : State B) (es : List Event) → Nested s.stack es → Keeps es (this_or_error bodies setup o s)
-  keeps_this (Some this) s es n = n
+  keeps_this : (o : Option Value) (s : State B) (es : List Event) → Ready s.stack s.hand es → Keeps es (this_or_error bodies setup o s)
+  keeps_this (Some this) s es n = hand_on _ s.hand s.stack es n
   keeps_this None s es n = keeps_throws bodies setup.builtins Handing (ReferenceError 0) s es n
 
-  keeps_constructor : (this : ObjId) (v : Value) (s : State B) (es : List Event) → Nested s.stack es → Keeps es (end_of_constructor bodies setup this v s)
-  keeps_constructor this (values.Object o) s es n = n
-  keeps_constructor this v s es n = n
+  keeps_constructor : (this : ObjId) (v : Value) (s : State B) (es : List Event) → Ready s.stack s.hand es → Keeps es (end_of_constructor bodies setup this v s)
+  keeps_constructor this (values.Object o) s es n = hand_on _ s.hand s.stack es n
+  keeps_constructor this v s es n = hand_on _ s.hand s.stack es n
 
-  keeps_derived : (scope : ScopeId) (v : Value) (s : State B) (es : List Event) → Nested s.stack es → Keeps es (end_of_derived bodies setup scope v s)
-  keeps_derived scope (values.Object o) s es n = n
+  keeps_derived : (scope : ScopeId) (v : Value) (s : State B) (es : List Event) → Ready s.stack s.hand es → Keeps es (end_of_derived bodies setup scope v s)
+  keeps_derived scope (values.Object o) s es n = hand_on _ s.hand s.stack es n
   keeps_derived scope values.Undefined s es n = keeps_this (cell_of s.stores.cells.scopes 0 scope) s es n
   keeps_derived scope v s es n = keeps_throws bodies setup.builtins Handing (TypeError 10) s es n
 
-  keeps_return : (end : BodyEnd) (scope : ScopeId) (v : Value) (s : State B) (es : List Event) → Nested s.stack es → Keeps es (row_return bodies setup end scope v s)
-  keeps_return after.Plain scope v s es n = n
+  keeps_return : (end : BodyEnd) (scope : ScopeId) (v : Value) (s : State B) (es : List Event) → Ready s.stack s.hand es → Keeps es (row_return bodies setup end scope v s)
+  keeps_return after.Plain scope v s es n = hand_on _ s.hand s.stack es n
   keeps_return (after.Constructor this) scope v s es n = keeps_constructor this v s es n
   keeps_return after.DerivedConstructor scope v s es n = keeps_derived scope v s es n
 
-  keeps_wants : (oracle : Oracle) (a : Activation B) (w : Wants) (s : State B) (es : List Event) → Nested s.stack es → Keeps es (row_wants bodies setup oracle a w s)
+  keeps_wants : (oracle : Oracle) (a : Activation B) (w : Wants) (s : State B) (es : List Event) → Ready s.stack s.hand es → Keeps es (row_wants bodies setup oracle a w s)
   keeps_wants oracle a (Asks r list) s es n = keeps_request oracle a r list s es n
   keeps_wants oracle a (Returns v) s es n = keeps_return a.end a.scope v s es n
-  keeps_wants oracle a (Throws v) s es n = n
+  keeps_wants oracle a (Throws v) s es n = hand_on _ s.hand s.stack es n
 
   -- ---- by the top item
 
-  keeps_body : (oracle : Oracle) (a : Activation B) (h : Option Handed) (s : State B) (es : List Event) → Nested s.stack es → Keeps es (row_body bodies setup oracle a h s)
+  keeps_body : (oracle : Oracle) (a : Activation B) (h : Option Handed) (s : State B) (es : List Event) → Ready s.stack s.hand es → Keeps es (row_body bodies setup oracle a h s)
   keeps_body oracle a (Some h) s es n = keeps_handed bodies (Asked a) h s es n
   keeps_body oracle a None s es n = keeps_wants oracle a (bodies.wants a.frame) s es n
 
-  keeps_due : (oracle : Oracle) (d : Due) (s : State B) (es : List Event) → Nested s.stack es → Keeps es (row_do bodies setup oracle d s)
-  keeps_due oracle Main s es n = record { open_ones = λ i. Running (record { 0 = 1 }) ∷ n.open_ones i; nests = n.nests }
-  keeps_due oracle (Call callee this arguments) s es n = keeps_call bodies setup oracle Handing callee this arguments s es n
-  keeps_due oracle (Construct callee target arguments) s es n = keeps_construct bodies setup Handing callee target arguments s es n
+  -- the main script, where nothing else stands
+  closes_alone : (b : Bracket) (marked : Bool) (stack : List (Item B)) → stack ≡ [] → IsGround (Close b marked ∷ stack)
+  closes_alone b marked [] q = (tt, refl)
+  closes_alone b marked (i ∷ rest) q = absurd cc
 
-  keeps_close : (b : Bracket) (marked : Bool) (h : Option Handed) (below : List (Item B)) (s : State B) (es : List Event) → Nested (Close b marked ∷ s.stack) es → Keeps es (closing_by b h below s)
+  keeps_main : (s : State B) (es : List Event) → s.stack ≡ [] → Nested s.stack es → Keeps es (row_main bodies setup s)
+  keeps_main s es q n = record {
+    nested = record { open_ones = λ i. Running (record { 0 = 1 }) ∷ n.open_ones i; nests = n.nests };
+    well = closes_alone (Running (record { 0 = 1 })) false s.stack q;
+  }
+
+  keeps_due : (oracle : Oracle) (d : Due) (s : State B) (es : List Event) → s.hand ≡ None → Nested s.stack es → IsBelow d s.stack → Keeps es (row_do bodies setup oracle d s)
+  keeps_due oracle Main s es q n below = keeps_main s es below n
+  keeps_due oracle (Call callee this arguments) s es q n below = keeps_call bodies setup oracle Handing callee this arguments s es (record { nested = n; empty = q; ground = below })
+  keeps_due oracle (Construct callee target arguments) s es q n below = keeps_construct bodies setup Handing callee target arguments s es (record { nested = n; empty = q; ground = below })
+
+  keeps_close : (b : Bracket) (marked : Bool) (h : Option Handed) (below : List (Item B)) (s : State B) (es : List Event) → Stands (Close b marked ∷ s.stack) h es → Keeps es (closing_by b h below s)
   keeps_close (Running i) marked (Some (hand.Throws v)) [] s es n = tt
   keeps_close b marked h below s es n = keeps_closing b marked h s es n
 
-  keeps_item : (oracle : Oracle) (i : Item B) (h : Option Handed) (s : State B) (es : List Event) → Nested (i ∷ s.stack) es → Keeps es (row_item bodies setup oracle i h s)
-  keeps_item oracle (Body a) h s es n = keeps_body oracle a h s es (record { open_ones = n.open_ones; nests = n.nests })
-  keeps_item oracle (Do d) h s es n = keeps_due oracle d s es (record { open_ones = n.open_ones; nests = n.nests })
-  keeps_item oracle (Reply u) h s es n = tt
-  keeps_item oracle (Hooks calls held) h s es n = tt
-  keeps_item oracle (Close b marked) h s es n = keeps_close b marked h s.stack s es n
+  -- the brackets without an item that is none of them
+  under_body : (a : Activation B) (stack : List (Item B)) (es : List Event) → Nested (Body a ∷ stack) es → Nested stack es
+  under_body a stack es n = record { open_ones = n.open_ones; nests = n.nests }
+
+  under_do : (d : Due) (stack : List (Item B)) (es : List Event) → Nested (Do d ∷ stack) es → Nested stack es
+  under_do d stack es n = record { open_ones = n.open_ones; nests = n.nests }
+
+  keeps_item : (oracle : Oracle) (i : Item B) (h : Option Handed) (s : State B) (es : List Event) → s.hand ≡ None → Stands (i ∷ s.stack) h es → Keeps es (row_item bodies setup oracle i h s)
+  keeps_item oracle (Body a) h s es q n = keeps_body oracle a h s es (record { nested = under_body a s.stack es n.nested; empty = q; ground = n.well })
+  keeps_item oracle (Do d) h s es q n = keeps_due oracle d s es q (under_do d s.stack es n.nested) n.well.1
+  keeps_item oracle (Reply u) h s es q n = tt
+  keeps_item oracle (Hooks calls held) h s es q n = tt
+  keeps_item oracle (Close b marked) h s es q n = keeps_close b marked h s.stack s es n
 
   keeps_idle : (t : Bool) (e : Next B) (es : List Event) → Keeps es e → Keeps es (if t then e else Unbuilt)
   keeps_idle true e es k = k
   keeps_idle false e es k = tt
 
-  keeps_next : (oracle : Oracle) (stack : List (Item B)) (h : Option Handed) (s : State B) (es : List Event) → Nested stack es → Keeps es (next_by bodies setup oracle stack h s)
+  keeps_next : (oracle : Oracle) (stack : List (Item B)) (h : Option Handed) (s : State B) (es : List Event) → Stands stack h es → Keeps es (next_by bodies setup oracle stack h s)
   keeps_next oracle [] h s es n = keeps_idle (is_quiet s) _ es tt
-  keeps_next oracle (i ∷ rest) h s es n = keeps_item oracle i h (popped rest s) es n
+  keeps_next oracle (i ∷ rest) h s es n = keeps_item oracle i h (popped rest s) es refl n
 
-keeps_moved : {B : Type 0} (e : Option Ended) (next : Next B) (w : World B) → Nested w.state.stack w.events → Keeps w.events next → Nested (moved_by e next w).state.stack (moved_by e next w).events
+keeps_moved : {B : Type 0} (e : Option Ended) (next : Next B) (w : World B) → Stands w.state.stack w.state.hand w.events → Keeps w.events next → Stands (moved_by e next w).state.stack (moved_by e next w).state.hand (moved_by e next w).events
 keeps_moved None (On m) w n k = k
 keeps_moved None TurnDue w n k = n
 keeps_moved None (Over e) w n k = n
 keeps_moved None Unbuilt w n k = n
 keeps_moved (Some e) next w n k = n
 
+-- ---- events grow
+
+grows_by : {B : Type 0} (e : Option Ended) (next : Next B) (w : World B) → (adds : List Event) × ((moved_by e next w).events ≡ adds ++ w.events)
+grows_by None (On m) w = (m.adds, refl)
+grows_by None TurnDue w = ([], refl)
+grows_by None (Over e) w = ([], refl)
+grows_by None Unbuilt w = ([], refl)
+grows_by (Some e) next w = ([], refl)
+
 module _ {B : Type 0} (bodies : Bodies B) (setup : Setup) (most : Most) where
-  pub nested : (stores : Stores) (k : ℕ) → Nested (world bodies setup most stores k).state.stack (world bodies setup most stores k).events
-  nested stores zero = record { open_ones = refl; nests = refl }
-  nested stores (suc k) =
+  pub stands : (stores : Stores) (k : ℕ) → Stands (world bodies setup most stores k).state.stack (world bodies setup most stores k).state.hand (world bodies setup most stores k).events
+  stands stores zero = record { nested = record { open_ones = refl; nests = refl }; well = (refl, refl) }
+  stands stores (suc k) =
       let w = world bodies setup most stores k in
-      keeps_moved (end_of bodies setup most w) (next_of bodies setup most w) w (nested stores k) (keeps_next bodies setup (walked w.events) w.state.stack w.state.hand w.state w.events (nested stores k))
+      keeps_moved (end_of bodies setup most w) (next_of bodies setup most w) w (stands stores k) (keeps_next bodies setup (walked w.events) w.state.stack w.state.hand w.state w.events (stands stores k))
 
   pub nests_after : (stores : Stores) (k : ℕ) → NestsAfter bodies setup most stores k
-  nests_after stores k = record { open_ones = (nested stores k).open_ones; nests = (nested stores k).nests }
+  nests_after stores k = record { open_ones = (stands stores k).nested.open_ones; nests = (stands stores k).nested.nests }
+
+  pub stands_well : (stores : Stores) (k : ℕ) → StandsWell (world bodies setup most stores k).state.stack (world bodies setup most stores k).state.hand
+  stands_well stores k = (stands stores k).well
+
+  pub grow : (stores : Stores) (k n : ℕ) → (later : List Event) × ((world bodies setup most stores (n + k)).events ≡ later ++ (world bodies setup most stores k).events)
+  grow stores k zero = let none : 0 + k ≡ k = omega arith in ([], ap (λ j. (world bodies setup most stores j).events) none)
+  grow stores k (suc n) =
+      let one : suc n + k ≡ suc (n + k) = omega arith in
+      let before = grow stores k n in
+      let w = world bodies setup most stores (n + k) in
+      let more = grows_by (end_of bodies setup most w) (next_of bodies setup most w) w in
+      (more.0 ++ before.0, ap (λ j. (world bodies setup most stores j).events) one ∙ (more.1 ∙ (ap (λ es. more.0 ++ es) before.1 ∙ sym (append_assoc more.0 before.0 (world bodies setup most stores k).events))))

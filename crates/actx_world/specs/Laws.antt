@@ -1,12 +1,14 @@
 -- The laws of these definitions: statements that the contracts of the functions in `laws` prove.
-use Rattle.std.specs.Prelude.{◌≡◌, ℕ, ◌+◌, ◌≤◌, ◌<◌, true, List, [], ◌∷◌, Some, None}
+use Rattle.std.specs.Prelude.{◌≡◌, ℕ, ◌+◌, ◌≤◌, ◌<◌, Bool, true, false, List, [], ◌∷◌, ◌++◌, Option, Some, None, is_some}
+use Rattle.actx_event.specs.declared.event.Event.{Event}
 use Rattle.actx_event.specs.declared.bracket.Bracket.{Bracket}
 use Rattle.actx_event.specs.declared.bracket.Open.{Open}
 use Rattle.actx_event.specs.Brackets.{opened, nests}
 use Rattle.actx_event.specs.Mappings.{carried}
 use Rattle.actx_request.specs.Outcomes.{Stores}
+use Rattle.actx_world.specs.declared.handed.Handed.{Handed}
 use Rattle.actx_world.specs.Setup.{Bodies, Setup}
-use Rattle.actx_world.specs.State.{Item, Body, Do, Reply, Hooks, Close}
+use Rattle.actx_world.specs.State.{Due, Main, Call, Construct, Item, Body, Do, Reply, Hooks, Close}
 use Rattle.actx_request.specs.Limits.{first_above as above_by_request}
 use Rattle.actx_world.specs.Moves.{TurnDue}
 use Rattle.actx_world.specs.Ends.{Most, first_above, above_in_stores, Ended}
@@ -49,6 +51,47 @@ pub record NestsAfter {B : Type 0} (bodies : Bodies B) (setup : Setup) (most : M
 abbrev pub EventsNest : Type 0 → Type 0
 EventsNest B = (bodies : Bodies B) (setup : Setup) (most : Most) (stores : Stores) (k : ℕ) → NestsAfter bodies setup most stores k
 
+-- ---- the stack and the hand
+
+-- only bodies and closing items
+abbrev pub AreRunning : {B : Type 0} → List (Item B) → Type 0
+AreRunning [] = Unit {0}
+AreRunning (Body a ∷ rest) = AreRunning rest
+AreRunning (Close b marked ∷ rest) = AreRunning rest
+AreRunning (Do d ∷ rest) = ⊥
+AreRunning (Reply u ∷ rest) = ⊥
+AreRunning (Hooks calls held ∷ rest) = ⊥
+
+-- the lowest item is a closing item
+abbrev pub ends_closed : {B : Type 0} → List (Item B) → Bool
+ends_closed [] = false
+ends_closed (Close b marked ∷ []) = true
+ends_closed (i ∷ rest) = ends_closed rest
+
+-- what may stand below a body or a call
+abbrev pub IsGround : {B : Type 0} → List (Item B) → Type 0
+IsGround stack = AreRunning stack × (ends_closed stack ≡ true)
+
+abbrev pub IsBelow : {B : Type 0} → Due → List (Item B) → Type 0
+IsBelow Main rest = rest ≡ []
+IsBelow (Call callee this arguments) rest = IsGround rest
+IsBelow (Construct callee target arguments) rest = IsGround rest
+
+-- A Do stands on top alone, with an empty hand; a closing item on top meets a completion; where nothing stands, the hand is
+-- empty. No Reply and no Hooks stand yet.
+abbrev pub StandsWell : {B : Type 0} → List (Item B) → Option Handed → Type 0
+StandsWell [] h = h ≡ None
+StandsWell (Body a ∷ rest) h = IsGround rest
+StandsWell (Do d ∷ rest) h = (h ≡ None) × IsBelow d rest
+StandsWell (Close b marked ∷ rest) h = (is_some h ≡ true) × IsGround (Close b marked ∷ rest)
+StandsWell (Reply u ∷ rest) h = ⊥
+StandsWell (Hooks calls held ∷ rest) h = ⊥
+
+abbrev pub StacksStandWell : Type 0 → Type 0
+StacksStandWell B =
+    (bodies : Bodies B) (setup : Setup) (most : Most) (stores : Stores) (k : ℕ) →
+    StandsWell (world bodies setup most stores k).state.stack (world bodies setup most stores k).state.hand
+
 -- ---- ends
 
 -- no count is ever above its limit
@@ -89,3 +132,11 @@ EndedWorldsStay B =
     (bodies : Bodies B) (setup : Setup) (most : Most) (stores : Stores) (k n : ℕ) (e : Ended) →
     end_of bodies setup most (world bodies setup most stores k) ≡ Some e →
     world bodies setup most stores (n + k) ≡ world bodies setup most stores k
+
+-- ---- events
+
+-- what was added stays: later events stand before those of an earlier world, which are listed newest first
+abbrev pub EventsGrow : Type 0 → Type 0
+EventsGrow B =
+    (bodies : Bodies B) (setup : Setup) (most : Most) (stores : Stores) (k n : ℕ) →
+    (later : List Event) × ((world bodies setup most stores (n + k)).events ≡ later ++ (world bodies setup most stores k).events)

@@ -3,7 +3,7 @@
 ghost use Rattle.actx_want.specs.Run.{Run};
 ghost use Rattle.actx_world.specs.Rests.{Replay};
 ghost use Rattle.actx_world.specs.Keeping.{ReplaysAreRests};
-ghost use Rattle.actx_world.specs.Laws.{BothWorldsAreSame, EventsNest, LimitsHold, RequestsMeetLimits, LastIsFirst, EndedWorldsStay};
+ghost use Rattle.actx_world.specs.Laws.{BothWorldsAreSame, EventsNest, LimitsHold, RequestsMeetLimits, LastIsFirst, EndedWorldsStay, StacksStandWell, EventsGrow};
 
 /// The world with mappings carried has the events, the state and the end of the world with reads by the causal
 /// walk, after every number of moves, however bodies are kept.
@@ -40,4 +40,18 @@ pub fn last_step()
     ensures replays { LastIsFirst Replay }
     ensures rests_stay { EndedWorldsStay Run }
     ensures replays_stay { EndedWorldsStay Replay }
+{}
+
+/// After every number of moves a Do stands on top alone and with an empty hand, a closing item on top
+/// meets a completion, and the lowest item is a closing item, where anything but the main script's Do
+/// stands.
+pub fn standing()
+    ensures rests { StacksStandWell Run }
+    ensures replays { StacksStandWell Replay }
+{}
+
+/// What was added to the events stays.
+pub fn growing()
+    ensures rests { EventsGrow Run }
+    ensures replays { EventsGrow Replay }
 {}

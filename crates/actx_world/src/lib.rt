@@ -15,5 +15,5 @@ pub use examples::{
     files_of_several_functions, types_are_printed,
 };
 pub use handed::{BodyEnd, Handed};
-pub use laws::{last_step, limits, nesting, replaying, same_events};
+pub use laws::{growing, last_step, limits, nesting, replaying, same_events, standing};
 pub use phase::{LastJob, LoopPhase};

@@ -1,9 +1,10 @@
 -- The rows of calls keep what every move keeps.
-use Rattle.std.proofs.Common.{Bool, true, false, List, ◌∷◌, ◌++◌, Option, Some, None}
+use Rattle.std.proofs.Common.{◌≡◌, ℕ, Bool, true, false, List, ◌∷◌, ◌++◌, Option, Some, None}
 use Rattle.actx_text.specs.declared.body_id.BodyId.{BodyId}
 use Rattle.actx_tree.specs.declared.function.Flow.{Flow}
 use Rattle.actx_tree.specs.declared.function.Flow.TheVariants as flows
 use Rattle.actx_event.specs.declared.event.Event.{Event}
+use Rattle.actx_event.specs.declared.event.Event.TheVariants.{Print}
 use Rattle.actx_value.specs.Texts.{with_text}
 use Rattle.actx_value.specs.declared.ids.ObjId.{ObjId}
 use Rattle.actx_value.specs.declared.ids.ScopeId.{ScopeId}
@@ -12,15 +13,16 @@ use Rattle.actx_value.specs.declared.value.Value.TheVariants as values
 use Rattle.actx_value.specs.declared.error_kind.ErrorKind.TheVariants.{TypeError}
 use Rattle.actx_objects.specs.Objects.{proto_of}
 use Rattle.actx_request.specs.Outcomes.{with_texts}
+use Rattle.actx_world.specs.declared.handed.Handed.{Handed}
 use Rattle.actx_world.specs.declared.handed.Handed.TheVariants as hand
 use Rattle.actx_world.specs.declared.handed.BodyEnd.{BodyEnd}
 use Rattle.actx_world.specs.Setup.{Bodies, Setup, NativeOut, Gives, Throws, OutOfProfile, Exits, Prints}
 use Rattle.actx_world.specs.State.{Activation, Due, Call, Do, State, with_stores}
-use Rattle.actx_world.specs.Moves.{Oracle, Asker, Asked, Handing, quiet}
+use Rattle.actx_world.specs.Moves.{Oracle, Asker, Asked, Handing, quiet, handed_to}
 use Rattle.actx_world.specs.Functions.{kind_at, flow_at, is_class, is_derived, Callee, NotCallable, OfProgram, OfBundle, OfBound, OfStore, OfMachine, OfLater, callee_of, callee_at, is_constructor}
 use Rattle.actx_world.specs.Acts.{Act, Give, Refuse, Leave, Invoke, MakeBound, Execution, Trigger, Later, decide}
 use Rattle.actx_world.specs.Calls.{row_begin, row_body_call, row_closure, row_native, bound_made, row_act, call_as, row_call, construct_begun, row_body_construct, row_bound_construct, construct_as, construct_if, row_construct, row_new, row_parent, row_super}
-use Rattle.actx_world.proofs.KeptBrackets.{Ready, Keeps, body_on, call_on, construct_on, keeps_handed, keeps_gives, keeps_throws}
+use Rattle.actx_world.proofs.KeptBrackets.{Ready, Keeps, Begins, ground_begins, printed_nested, body_on, call_on, construct_on, keeps_handed, keeps_gives, keeps_throws}
 
 module _ {B : Type 0} (bodies : Bodies B) (setup : Setup) where
   keeps_begin : (flow : Flow) (b : BodyId) (parent : ScopeId) (this : Option Value) (f home : Value) (arguments : List Value) (end : BodyEnd) (s : State B) (es : List Event) → Ready s.stack s.hand es → Keeps es (row_begin bodies setup flow b parent this f home arguments end s)
@@ -36,6 +38,11 @@ module _ {B : Type 0} (bodies : Bodies B) (setup : Setup) where
   keeps_closure true asker f this arguments b parent home s es n = keeps_throws bodies setup.builtins asker (TypeError 7) s es n
   keeps_closure false asker f this arguments b parent home s es n = keeps_body_call asker f this arguments b parent home s es n
 
+  -- a printed line comes after the main script has begun
+  printed_begins : (line : List ℕ) (asker : Asker B) (h : Handed) (s : State B) (es : List Event) → Ready s.stack s.hand es → Begins (handed_to bodies asker h s).stack (Print line ∷ es)
+  printed_begins line (Asked a) h s es n = tt
+  printed_begins line Handing h s es n = ground_begins s.stack (Print line ∷ es) n.ground.0
+
   keeps_native : (asker : Asker B) (o : NativeOut) (s : State B) (es : List Event) → Ready s.stack s.hand es → Keeps es (row_native bodies setup asker o s)
   keeps_native asker (Gives v) s es n = keeps_gives bodies asker v s es n
   keeps_native asker (Throws e) s es n = keeps_throws bodies setup.builtins asker e s es n
@@ -43,7 +50,7 @@ module _ {B : Type 0} (bodies : Bodies B) (setup : Setup) where
   keeps_native asker (Exits status) s es n = tt
   keeps_native asker (Prints line) s es n =
       let w = keeps_handed bodies asker (hand.Gives values.Undefined) (with_stores (with_texts (with_text s.stores.texts.texts line) s.stores) s) es n in
-      record { nested = record { open_ones = w.nested.open_ones; nests = w.nested.nests }; well = w.well }
+      record { nested = printed_nested line _ es w.nested; well = w.well; begins = printed_begins line asker (hand.Gives values.Undefined) (with_stores (with_texts (with_text s.stores.texts.texts line) s.stores) s) es n }
 
   keeps_act : (oracle : Oracle) (asker : Asker B) (act : Act) (s : State B) (es : List Event) → Ready s.stack s.hand es → Keeps es (row_act bodies setup oracle asker act s)
   keeps_act oracle asker (Give v) s es n = keeps_gives bodies asker v s es n

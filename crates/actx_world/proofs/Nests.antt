@@ -1,9 +1,13 @@
 -- Every move keeps the brackets, and a stack that stands well.
-use Rattle.std.proofs.Common.{◌≡◌, ℕ, zero, suc, ◌+◌, Bool, true, false, List, [], ◌∷◌, ◌++◌, Option, Some, None, if◌then◌else◌, refl, sym, ap, ◌∙◌, arith}
-use Rattle.std.proofs.lemmas.List.{append_assoc}
+use Rattle.std.proofs.Common.{◌≡◌, ℕ, zero, suc, ◌+◌, Bool, true, false, List, [], ◌∷◌, ◌++◌, Option, Some, None, if◌then◌else◌, length, reverse, refl, sym, ap, subst, ◌∙◌, arith}
+use Rattle.std.proofs.lemmas.List.{append_assoc, reverse-reverse}
+use Rattle.std.specs.Option.{option_or}
 use Rattle.actx_text.specs.declared.body_id.BodyId.{BodyId}
 use Rattle.actx_event.specs.declared.event.Event.{Event}
 use Rattle.actx_event.specs.declared.bracket.Bracket.{Bracket}
+use Rattle.actx_event.specs.declared.bracket.Open.{Open}
+use Rattle.actx_event.specs.Brackets.{opened}
+use Rattle.actx_event.specs.Valid.{first_broken, left_open, failure_before, IsValid}
 use Rattle.actx_event.specs.declared.bracket.Bracket.TheVariants.{Running}
 use Rattle.actx_value.specs.declared.ids.ObjId.{ObjId}
 use Rattle.actx_value.specs.declared.ids.ScopeId.{ScopeId}
@@ -30,11 +34,11 @@ use Rattle.actx_world.specs.Functions.{Heritage, Extends, Refuses, Leaves, herit
 use Rattle.actx_world.specs.Walks.{Walked, Walkable, LaterWalk, NotIterable, walked_as, Stepped, NoneLeft, walk_step, walk_part, with_walk, opened_walk, open_as, row_stepped, next_of_part, close_of_part}
 use Rattle.actx_world.specs.Looks.{type_of, is_in, is_instance}
 use Rattle.actx_world.specs.Wishes.{class_of, row_request, this_or_error, end_of_constructor, end_of_derived, row_return, row_wants}
-use Rattle.actx_world.specs.Rows.{row_main, row_do, closing_by, is_quiet, row_body, row_item, popped, next_by}
+use Rattle.actx_world.specs.Rows.{main_events, main_activation, row_main, row_do, closing_by, is_quiet, row_body, row_item, popped, next_by}
 use Rattle.actx_world.specs.Ends.{Most, Ended}
 use Rattle.actx_world.specs.Worlds.{walked, World, moved_by, next_of, end_of, world}
-use Rattle.actx_world.specs.Laws.{NestsAfter, IsGround, IsBelow, StandsWell}
-use Rattle.actx_world.proofs.KeptBrackets.{Nested, Stands, Ready, Keeps, body_on, hand_on, keeps_closing, keeps_handed, keeps_gives, keeps_throws, keeps_given}
+use Rattle.actx_world.specs.Laws.{brackets, closings, NestsAfter, IsValidAfter, IsGround, IsBelow, StandsWell}
+use Rattle.actx_world.proofs.KeptBrackets.{Nested, Stands, Ready, Keeps, Begins, same_brackets, body_on, hand_on, keeps_closing, keeps_handed, keeps_gives, keeps_throws, keeps_given}
 use Rattle.actx_world.proofs.CallRows.{keeps_call, keeps_construct, keeps_new, keeps_super}
 
 module _ {B : Type 0} (bodies : Bodies B) (setup : Setup) where
@@ -118,20 +122,26 @@ module _ {B : Type 0} (bodies : Bodies B) (setup : Setup) where
   keeps_body oracle a None s es n = keeps_wants oracle a (bodies.wants a.frame) s es n
 
   -- the main script, where nothing else stands
+  abbrev main_bracket : Bracket
+  main_bracket = Running (record { 0 = 1 })
+
   closes_alone : (b : Bracket) (marked : Bool) (stack : List (Item B)) → stack ≡ [] → IsGround (Close b marked ∷ stack)
   closes_alone b marked [] q = (tt, refl)
   closes_alone b marked (i ∷ rest) q = absurd cc
 
-  keeps_main : (s : State B) (es : List Event) → s.stack ≡ [] → Nested s.stack es → Keeps es (row_main bodies setup s)
-  keeps_main s es q n = record {
-    nested = record { open_ones = λ i. Running (record { 0 = 1 }) ∷ n.open_ones i; nests = n.nests };
-    well = closes_alone (Running (record { 0 = 1 })) false s.stack q;
+  keeps_main : (s : State B) (es : List Event) → s.stack ≡ [] → es ≡ [] → Keeps es (row_main bodies setup s)
+  keeps_main s es q none = record {
+    nested = same_brackets (Close main_bracket false ∷ []) (Body (main_activation bodies setup) ∷ Close main_bracket false ∷ s.stack) (main_events ++ es)
+      (ap (λ stack. closings {B = B} (Close main_bracket false ∷ stack)) q)
+      (subst (λ later. Nested {B = B} (Close main_bracket false ∷ []) (main_events ++ later)) (sym none) (record { open_ones = refl; nests = refl; unbroken = refl; made = (refl, tt) }));
+    well = closes_alone main_bracket false s.stack q;
+    begins = tt;
   }
 
-  keeps_due : (oracle : Oracle) (d : Due) (s : State B) (es : List Event) → s.hand ≡ None → Nested s.stack es → IsBelow d s.stack → Keeps es (row_do bodies setup oracle d s)
-  keeps_due oracle Main s es q n below = keeps_main s es below n
-  keeps_due oracle (Call callee this arguments) s es q n below = keeps_call bodies setup oracle Handing callee this arguments s es (record { nested = n; empty = q; ground = below })
-  keeps_due oracle (Construct callee target arguments) s es q n below = keeps_construct bodies setup Handing callee target arguments s es (record { nested = n; empty = q; ground = below })
+  keeps_due : (oracle : Oracle) (d : Due) (s : State B) (es : List Event) → s.hand ≡ None → Nested s.stack es → IsBelow d s.stack → Begins (Do d ∷ s.stack) es → Keeps es (row_do bodies setup oracle d s)
+  keeps_due oracle Main s es q n below begins = keeps_main s es below begins
+  keeps_due oracle (Call callee this arguments) s es q n below begins = keeps_call bodies setup oracle Handing callee this arguments s es (record { nested = n; empty = q; ground = below })
+  keeps_due oracle (Construct callee target arguments) s es q n below begins = keeps_construct bodies setup Handing callee target arguments s es (record { nested = n; empty = q; ground = below })
 
   keeps_close : (b : Bracket) (marked : Bool) (h : Option Handed) (below : List (Item B)) (s : State B) (es : List Event) → Stands (Close b marked ∷ s.stack) h es → Keeps es (closing_by b h below s)
   keeps_close (Running i) marked (Some (hand.Throws v)) [] s es n = tt
@@ -139,14 +149,14 @@ module _ {B : Type 0} (bodies : Bodies B) (setup : Setup) where
 
   -- the brackets without an item that is none of them
   under_body : (a : Activation B) (stack : List (Item B)) (es : List Event) → Nested (Body a ∷ stack) es → Nested stack es
-  under_body a stack es n = record { open_ones = n.open_ones; nests = n.nests }
+  under_body a stack es n = same_brackets (Body a ∷ stack) stack es refl n
 
   under_do : (d : Due) (stack : List (Item B)) (es : List Event) → Nested (Do d ∷ stack) es → Nested stack es
-  under_do d stack es n = record { open_ones = n.open_ones; nests = n.nests }
+  under_do d stack es n = same_brackets (Do d ∷ stack) stack es refl n
 
   keeps_item : (oracle : Oracle) (i : Item B) (h : Option Handed) (s : State B) (es : List Event) → s.hand ≡ None → Stands (i ∷ s.stack) h es → Keeps es (row_item bodies setup oracle i h s)
   keeps_item oracle (Body a) h s es q n = keeps_body oracle a h s es (record { nested = under_body a s.stack es n.nested; empty = q; ground = n.well })
-  keeps_item oracle (Do d) h s es q n = keeps_due oracle d s es q (under_do d s.stack es n.nested) n.well.1
+  keeps_item oracle (Do d) h s es q n = keeps_due oracle d s es q (under_do d s.stack es n.nested) n.well.1 n.begins
   keeps_item oracle (Reply u) h s es q n = tt
   keeps_item oracle (Hooks calls held) h s es q n = tt
   keeps_item oracle (Close b marked) h s es q n = keeps_close b marked h s.stack s es n
@@ -166,6 +176,18 @@ keeps_moved None (Over e) w n k = n
 keeps_moved None Unbuilt w n k = n
 keeps_moved (Some e) next w n k = n
 
+-- ---- valid logs
+
+none_open : {P : Type 0} (os : List (Open P)) → brackets os ≡ [] → os ≡ []
+none_open [] h = refl
+none_open (o ∷ os) h = absurd cc
+
+closed_valid : (es : List Event) → first_broken es ≡ None → brackets (opened es) ≡ [] → IsValid (reverse es)
+closed_valid es h q =
+    let open_none : opened es ≡ [] = none_open (opened es) q in
+    let before : failure_before es ≡ None = ap (λ f. option_or f (left_open (opened es) (length es))) h ∙ ap (λ os. left_open os (length es)) open_none in
+    ap failure_before (reverse-reverse es) ∙ before
+
 -- ---- events grow
 
 grows_by : {B : Type 0} (e : Option Ended) (next : Next B) (w : World B) → (adds : List Event) × ((moved_by e next w).events ≡ adds ++ w.events)
@@ -177,7 +199,7 @@ grows_by (Some e) next w = ([], refl)
 
 module _ {B : Type 0} (bodies : Bodies B) (setup : Setup) (most : Most) where
   pub stands : (stores : Stores) (k : ℕ) → Stands (world bodies setup most stores k).state.stack (world bodies setup most stores k).state.hand (world bodies setup most stores k).events
-  stands stores zero = record { nested = record { open_ones = refl; nests = refl }; well = (refl, refl) }
+  stands stores zero = record { nested = record { open_ones = refl; nests = refl; unbroken = refl; made = tt }; well = (refl, refl); begins = refl }
   stands stores (suc k) =
       let w = world bodies setup most stores k in
       keeps_moved (end_of bodies setup most w) (next_of bodies setup most w) w (stands stores k) (keeps_next bodies setup (walked w.events) w.state.stack w.state.hand w.state w.events (stands stores k))
@@ -187,6 +209,11 @@ module _ {B : Type 0} (bodies : Bodies B) (setup : Setup) (most : Most) where
 
   pub stands_well : (stores : Stores) (k : ℕ) → StandsWell (world bodies setup most stores k).state.stack (world bodies setup most stores k).state.hand
   stands_well stores k = (stands stores k).well
+
+  pub valid_after : (stores : Stores) (k : ℕ) → IsValidAfter bodies setup most stores k
+  valid_after stores k =
+      let n = (stands stores k).nested in
+      record { unbroken = n.unbroken; valid = λ q. closed_valid (world bodies setup most stores k).events n.unbroken (n.open_ones ∙ ap closings q) }
 
   pub grow : (stores : Stores) (k n : ℕ) → (later : List Event) × ((world bodies setup most stores (n + k)).events ≡ later ++ (world bodies setup most stores k).events)
   grow stores k zero = let none : 0 + k ≡ k = omega arith in ([], ap (λ j. (world bodies setup most stores j).events) none)

@@ -1,10 +1,11 @@
 -- The laws of these definitions: statements that the contracts of the functions in `laws` prove.
-use Rattle.std.specs.Prelude.{◌≡◌, ℕ, ◌+◌, ◌≤◌, ◌<◌, Bool, true, false, List, [], ◌∷◌, ◌++◌, Option, Some, None, is_some}
+use Rattle.std.specs.Prelude.{◌≡◌, ℕ, ◌+◌, ◌≤◌, ◌<◌, Bool, true, false, List, [], ◌∷◌, ◌++◌, reverse, Option, Some, None, is_some}
 use Rattle.actx_event.specs.declared.event.Event.{Event}
 use Rattle.actx_event.specs.declared.bracket.Bracket.{Bracket}
 use Rattle.actx_event.specs.declared.bracket.Open.{Open}
 use Rattle.actx_event.specs.Brackets.{opened, nests}
 use Rattle.actx_event.specs.Mappings.{carried}
+use Rattle.actx_event.specs.Valid.{first_broken, IsValid}
 use Rattle.actx_request.specs.Outcomes.{Stores}
 use Rattle.actx_world.specs.declared.handed.Handed.{Handed}
 use Rattle.actx_world.specs.Setup.{Bodies, Setup}
@@ -91,6 +92,16 @@ abbrev pub StacksStandWell : Type 0 → Type 0
 StacksStandWell B =
     (bodies : Bodies B) (setup : Setup) (most : Most) (stores : Stores) (k : ℕ) →
     StandsWell (world bodies setup most stores k).state.stack (world bodies setup most stores k).state.hand
+
+-- ---- logs
+
+-- no event of a world breaks a rule of valid logs, and where nothing is left on the stack the log is valid
+pub record IsValidAfter {B : Type 0} (bodies : Bodies B) (setup : Setup) (most : Most) (stores : Stores) (k : ℕ) : Type 0 where
+  pub unbroken : first_broken (world bodies setup most stores k).events ≡ None
+  pub valid : (world bodies setup most stores k).state.stack ≡ [] → IsValid (reverse (world bodies setup most stores k).events)
+
+abbrev pub LogsAreValid : Type 0 → Type 0
+LogsAreValid B = (bodies : Bodies B) (setup : Setup) (most : Most) (stores : Stores) (k : ℕ) → IsValidAfter bodies setup most stores k
 
 -- ---- ends
 

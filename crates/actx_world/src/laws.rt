@@ -3,7 +3,7 @@
 ghost use Rattle.actx_want.specs.Run.{Run};
 ghost use Rattle.actx_world.specs.Rests.{Replay};
 ghost use Rattle.actx_world.specs.Keeping.{ReplaysAreRests};
-ghost use Rattle.actx_world.specs.Laws.{BothWorldsAreSame, EventsNest, LimitsHold, RequestsMeetLimits, LastIsFirst, EndedWorldsStay, StacksStandWell, EventsGrow};
+ghost use Rattle.actx_world.specs.Laws.{BothWorldsAreSame, EventsNest, LimitsHold, RequestsMeetLimits, LastIsFirst, EndedWorldsStay, StacksStandWell, EventsGrow, LogsAreValid};
 
 /// The world with mappings carried has the events, the state and the end of the world with reads by the causal
 /// walk, after every number of moves, however bodies are kept.
@@ -54,4 +54,11 @@ pub fn standing()
 pub fn growing()
     ensures rests { EventsGrow Run }
     ensures replays { EventsGrow Replay }
+{}
+
+/// No event breaks a rule of valid logs, after every number of moves; where nothing is left on the stack,
+/// the log is valid.
+pub fn validity()
+    ensures rests { LogsAreValid Run }
+    ensures replays { LogsAreValid Replay }
 {}

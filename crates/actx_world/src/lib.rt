@@ -15,5 +15,7 @@ pub use examples::{
     files_of_several_functions, types_are_printed,
 };
 pub use handed::{BodyEnd, Handed};
-pub use laws::{growing, last_step, limits, nesting, replaying, same_events, standing};
+pub use laws::{
+    growing, last_step, limits, nesting, replaying, same_events, standing, validity,
+};
 pub use phase::{LastJob, LoopPhase};

@@ -1,5 +1,5 @@
 -- The rows of calls keep what every move keeps.
-use Rattle.std.proofs.Common.{◌≡◌, ℕ, Bool, true, false, List, ◌∷◌, ◌++◌, Option, Some, None}
+use Rattle.std.proofs.Common.{ℕ, Bool, true, false, List, ◌∷◌, ◌++◌, Option, Some, None}
 use Rattle.actx_text.specs.declared.body_id.BodyId.{BodyId}
 use Rattle.actx_tree.specs.declared.function.Flow.{Flow}
 use Rattle.actx_tree.specs.declared.function.Flow.TheVariants as flows
@@ -17,12 +17,12 @@ use Rattle.actx_world.specs.declared.handed.Handed.{Handed}
 use Rattle.actx_world.specs.declared.handed.Handed.TheVariants as hand
 use Rattle.actx_world.specs.declared.handed.BodyEnd.{BodyEnd}
 use Rattle.actx_world.specs.Setup.{Bodies, Setup, NativeOut, Gives, Throws, OutOfProfile, Exits, Prints}
-use Rattle.actx_world.specs.State.{Activation, Due, Call, Do, State, with_stores}
+use Rattle.actx_world.specs.State.{Activation, State, with_stores}
 use Rattle.actx_world.specs.Moves.{Oracle, Asker, Asked, Handing, quiet, handed_to}
 use Rattle.actx_world.specs.Functions.{kind_at, flow_at, is_class, is_derived, Callee, NotCallable, OfProgram, OfBundle, OfBound, OfStore, OfMachine, OfLater, callee_of, callee_at, is_constructor}
 use Rattle.actx_world.specs.Acts.{Act, Give, Refuse, Leave, Invoke, MakeBound, Execution, Trigger, Later, decide}
 use Rattle.actx_world.specs.Calls.{row_begin, row_body_call, row_closure, row_native, bound_made, row_act, call_as, row_call, construct_begun, row_body_construct, row_bound_construct, construct_as, construct_if, row_construct, row_new, row_parent, row_super}
-use Rattle.actx_world.proofs.KeptBrackets.{Ready, Keeps, Begins, ground_begins, printed_nested, body_on, call_on, construct_on, keeps_handed, keeps_gives, keeps_throws}
+use Rattle.actx_world.proofs.Facts.{Ready, Keeps, Begins, ground_begins, printed_nested, body_on, call_on, construct_on, keeps_handed, keeps_gives, keeps_throws}
 
 module _ {B : Type 0} (bodies : Bodies B) (setup : Setup) where
   keeps_begin : (flow : Flow) (b : BodyId) (parent : ScopeId) (this : Option Value) (f home : Value) (arguments : List Value) (end : BodyEnd) (s : State B) (es : List Event) → Ready s.stack s.hand es → Keeps es (row_begin bodies setup flow b parent this f home arguments end s)

@@ -1,7 +1,7 @@
 pub mod Oracles
-pub mod KeptBrackets
+pub mod Facts
 pub mod CallRows
-pub mod Nests
+pub mod EachMove
 pub mod Runs
 pub mod KeptCalls
 pub mod KeptRuns

@@ -2,17 +2,15 @@
 use Rattle.std.specs.Prelude.{◌≡◌, ℕ, pos, true, false, List, [], ◌∷◌, codes, Option, Some, None}
 use Rattle.actx_value.specs.declared.operator.BinaryOp.TheVariants.{StrictlyEqual, InstanceOf}
 use Rattle.actx_value.specs.declared.operator.UnaryOp.TheVariants.{TypeOf}
-use Rattle.actx_value.specs.declared.value.Value.{Value}
 use Rattle.actx_value.specs.declared.value.Value.TheVariants.{Undefined, Null, Num}
 use Rattle.actx_code.specs.declared.body.Body.{Body}
 use Rattle.actx_code.specs.declared.body.BodyKind.TheVariants.{Function, Arrow, Method, Class, DerivedClass}
 use Rattle.actx_code.specs.declared.form.Form.{Form}
 use Rattle.actx_code.specs.declared.item.ClassMember.{ClassMember}
-use Rattle.actx_code.specs.declared.item.Declared.{Declared}
 use Rattle.actx_want.specs.Run.{Meaning}
 use Rattle.actx_want.specs.Names.{name, changed_plainly}
 use Rattle.actx_want.specs.Operators.{unary, operand, operators}
-use Rattle.actx_want.specs.Members.{Suffixed, plain, change_member, member, suffixes, super_member}
+use Rattle.actx_want.specs.Members.{plain, change_member, member, suffixes, super_member}
 use Rattle.actx_want.specs.Lists.{Listed, single, array, object, pair, method}
 use Rattle.actx_want.specs.Calls.{call, new, super_call}
 use Rattle.actx_want.specs.Functions.{function, parameter}
@@ -63,19 +61,19 @@ super_bodies form =
 abbrev pub super_meanings : List Meaning
 super_meanings =
     block 3 [] (sequence (
-      init 0 (class_of 1 None (record { is_static = false; key = text_number 17; body = body_number 2 } ∷ []))
-      ∷ init 1 (class_of 3 (Some (name 0 0)) [])
-      ∷ logged (single (new (name 0 1) []) ∷ [])
-      ∷ init 2 (class_of 6 (Some (name 0 0)) [])
-      ∷ logged (single (new (name 0 2) []) ∷ [])
-      ∷ []))
+    init 0 (class_of 1 None (record { is_static = false; key = text_number 17; body = body_number 2 } ∷ []))
+    ∷ init 1 (class_of 3 (Some (name 0 0)) [])
+    ∷ logged (single (new (name 0 1) []) ∷ [])
+    ∷ init 2 (class_of 6 (Some (name 0 0)) [])
+    ∷ logged (single (new (name 0 2) []) ∷ [])
+    ∷ []))
     ∷ sequence []
     ∷ returned (number 1)
     ∷ block 1 [] (sequence (
-      init 0 (function (body_number 4))
-      ∷ called (name 0 0) []
-      ∷ change_member (name 1 0) (plain (text_number 18)) (changed_plainly (called (function (body_number 5)) []))
-      ∷ []))
+    init 0 (function (body_number 4))
+    ∷ called (name 0 0) []
+    ∷ change_member (name 1 0) (plain (text_number 18)) (changed_plainly (called (function (body_number 5)) []))
+    ∷ []))
     ∷ returned (super_call 2 [])
     ∷ returned (super_member 2 (text_number 17) (call false [] ∷ []))
     ∷ sequence (super_call 0 [] ∷ returned (object (pair (plain (text_number 18)) (number 1) ∷ [])) ∷ [])
@@ -92,11 +90,11 @@ constructor_bodies form =
 abbrev pub constructor_meanings : List Meaning
 constructor_meanings =
     block 3 (record { slot = 0; body = body_number 1 } ∷ record { slot = 1; body = body_number 2 } ∷ []) (sequence (
-      change_member (member_of (name 0 0) 2) (plain (text_number 19)) (changed_plainly (function (body_number 3)))
-      ∷ init 2 (new (name 0 0) (single (number 5) ∷ []))
-      ∷ logged (single (member_called (name 0 2) 19 []) ∷ single (operators (name 0 2) (operand InstanceOf (name 0 0) ∷ [])) ∷ single (name 0 2) ∷ [])
-      ∷ logged (single (new (name 0 1) []) ∷ single (member_of (new (member_called (name 0 0) 13 (single (literal Null) ∷ single (number 9) ∷ [])) []) 9) ∷ [])
-      ∷ []))
+    change_member (member_of (name 0 0) 2) (plain (text_number 19)) (changed_plainly (function (body_number 3)))
+    ∷ init 2 (new (name 0 0) (single (number 5) ∷ []))
+    ∷ logged (single (member_called (name 0 2) 19 []) ∷ single (operators (name 0 2) (operand InstanceOf (name 0 0) ∷ [])) ∷ single (name 0 2) ∷ [])
+    ∷ logged (single (new (name 0 1) []) ∷ single (member_of (new (member_called (name 0 0) 13 (single (literal Null) ∷ single (number 9) ∷ [])) []) 9) ∷ [])
+    ∷ []))
     ∷ sequence (parameter 0 (slot 3) ∷ change_member (name 0 0) (plain (text_number 9)) (changed_plainly (name 0 3)) ∷ [])
     ∷ returned (array (single (number 1) ∷ []))
     ∷ returned (member_of (name 0 0) 9)
@@ -115,20 +113,20 @@ equal a b = operators a (operand StrictlyEqual b ∷ [])
 abbrev pub this_meanings : List Meaning
 this_meanings =
     block 2 (record { slot = 0; body = body_number 1 } ∷ []) (sequence (
-      init 1 (object (
-        pair (plain (text_number 17)) (name 0 0)
-        ∷ pair (plain (text_number 18)) (function (body_number 2))
-        ∷ method (plain (text_number 19)) (body_number 3)
-        ∷ []))
-      ∷ logged (
-        single (called (name 0 0) [])
-        ∷ single (equal (member_called (name 0 1) 17 []) (name 0 1))
-        ∷ single (member_called (name 0 1) 19 [])
-        ∷ single (member_called (name 0 0) 11 (single (number 5) ∷ []))
-        ∷ single (member_called (name 0 0) 12 (single (literal Null) ∷ []))
-        ∷ single (called (member_called (name 0 0) 13 (single (literal (text_number 9)) ∷ [])) [])
-        ∷ [])
-      ∷ []))
+    init 1 (object (
+    pair (plain (text_number 17)) (name 0 0)
+    ∷ pair (plain (text_number 18)) (function (body_number 2))
+    ∷ method (plain (text_number 19)) (body_number 3)
+    ∷ []))
+    ∷ logged (
+    single (called (name 0 0) [])
+    ∷ single (equal (member_called (name 0 1) 17 []) (name 0 1))
+    ∷ single (member_called (name 0 1) 19 [])
+    ∷ single (member_called (name 0 0) 11 (single (number 5) ∷ []))
+    ∷ single (member_called (name 0 0) 12 (single (literal Null) ∷ []))
+    ∷ single (called (member_called (name 0 0) 13 (single (literal (text_number 9)) ∷ [])) [])
+    ∷ [])
+    ∷ []))
     ∷ returned (name 0 0)
     ∷ returned (unary TypeOf (literal Undefined))
     ∷ returned (equal (called (function (body_number 4)) []) (name 1 1))

@@ -6,7 +6,7 @@ use Rattle.actx_value.specs.declared.caller_id.CallerId.TheVariants as callers
 use Rattle.actx_value.specs.declared.value.Key.{Key}
 use Rattle.actx_value.specs.declared.value.Key.TheVariants.{Name}
 use Rattle.actx_value.specs.declared.value.Value.{Value}
-use Rattle.actx_value.specs.declared.value.Value.TheVariants.{Undefined, Text, Object}
+use Rattle.actx_value.specs.declared.value.Value.TheVariants.{Undefined, Object}
 use Rattle.actx_code.specs.declared.body.Body.{Body}
 use Rattle.actx_code.specs.declared.body.BodyKind.{BodyKind}
 use Rattle.actx_code.specs.declared.form.Form.{Form}

@@ -1,6 +1,4 @@
-use Rattle.actx_want.specs.Run.{Run}
-use Rattle.actx_world.specs.Rests.{Replay}
-use Rattle.actx_world.proofs.Nests.{grow}
+use Rattle.actx_world.proofs.EachMove.{grow}
 use Rattle.actx_world.proofs.laws.growing.Goals as goal
 
 pub returns-clause-rests : goal.returns-clause-rests

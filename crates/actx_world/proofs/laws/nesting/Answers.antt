@@ -1,4 +1,4 @@
-use Rattle.actx_world.proofs.Nests.{nests_after}
+use Rattle.actx_world.proofs.EachMove.{nests_after}
 use Rattle.actx_world.proofs.laws.nesting.Goals as goal
 
 pub returns-clause-rests : goal.returns-clause-rests

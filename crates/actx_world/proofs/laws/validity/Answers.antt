@@ -1,6 +1,4 @@
-use Rattle.actx_want.specs.Run.{Run}
-use Rattle.actx_world.specs.Rests.{Replay}
-use Rattle.actx_world.proofs.Nests.{valid_after}
+use Rattle.actx_world.proofs.EachMove.{valid_after}
 use Rattle.actx_world.proofs.laws.validity.Goals as goal
 
 pub returns-clause-rests : goal.returns-clause-rests

@@ -38,7 +38,7 @@ use Rattle.actx_world.specs.Rows.{main_events, main_activation, row_main, row_do
 use Rattle.actx_world.specs.Ends.{Most, Ended}
 use Rattle.actx_world.specs.Worlds.{walked, World, moved_by, next_of, end_of, world}
 use Rattle.actx_world.specs.Laws.{brackets, closings, NestsAfter, IsValidAfter, IsGround, IsBelow, StandsWell}
-use Rattle.actx_world.proofs.KeptBrackets.{Nested, Stands, Ready, Keeps, Begins, same_brackets, body_on, hand_on, keeps_closing, keeps_handed, keeps_gives, keeps_throws, keeps_given}
+use Rattle.actx_world.proofs.Facts.{Nested, Stands, Ready, Keeps, Begins, same_brackets, body_on, hand_on, keeps_closing, keeps_handed, keeps_gives, keeps_throws, keeps_given}
 use Rattle.actx_world.proofs.CallRows.{keeps_call, keeps_construct, keeps_new, keeps_super}
 
 module _ {B : Type 0} (bodies : Bodies B) (setup : Setup) where
@@ -132,8 +132,8 @@ module _ {B : Type 0} (bodies : Bodies B) (setup : Setup) where
   keeps_main : (s : State B) (es : List Event) → s.stack ≡ [] → es ≡ [] → Keeps es (row_main bodies setup s)
   keeps_main s es q none = record {
     nested = same_brackets (Close main_bracket false ∷ []) (Body (main_activation bodies setup) ∷ Close main_bracket false ∷ s.stack) (main_events ++ es)
-      (ap (λ stack. closings {B = B} (Close main_bracket false ∷ stack)) q)
-      (subst (λ later. Nested {B = B} (Close main_bracket false ∷ []) (main_events ++ later)) (sym none) (record { open_ones = refl; nests = refl; unbroken = refl; made = (refl, tt) }));
+        (ap (λ stack. closings {B = B} (Close main_bracket false ∷ stack)) q)
+        (subst (λ later. Nested {B = B} (Close main_bracket false ∷ []) (main_events ++ later)) (sym none) (record { open_ones = refl; nests = refl; unbroken = refl; made = (refl, tt) }));
     well = closes_alone main_bracket false s.stack q;
     begins = tt;
   }

@@ -23,7 +23,7 @@ use Rattle.actx_world.specs.Setup.{Bodies, Builtins}
 use Rattle.actx_world.specs.State.{Activation, Main, Call, Construct, Item, Body, Do, Reply, Hooks, Close, State, pushed, with_stores}
 use Rattle.actx_world.specs.Moves.{Next, On, TurnDue, Over, Unbuilt, Asker, Asked, Handing, quiet, with_error, handed_to, waiting, gives_to, throws_to, given_to}
 use Rattle.actx_world.specs.Rows.{closer, passed_on, row_closing}
-use Rattle.actx_world.specs.Laws.{brackets, closings, AreRunning, ends_closed, IsGround, StandsWell}
+use Rattle.actx_world.specs.Laws.{brackets, closings, AreRunning, IsGround, StandsWell}
 
 -- what the closing events of these brackets name was made
 abbrev pub AreMade : List Bracket → List Event → Type 0

@@ -12,7 +12,7 @@ use Rattle.actx_want.specs.Operators.{chained}
 use Rattle.actx_want.specs.Classes.{stands_on_prototype, members_of}
 use Rattle.actx_want.specs.Statements.{sequenced, declared_of}
 use Rattle.actx_world.specs.FileExamples.{FilesRun}
-use Rattle.actx_world.specs.Examples.{EmptyFileRuns, ClassRuns, DerivedClassRuns, FunctionRuns, ArrowRuns, BoundRuns, ThroughRuns, TypedRuns, WalkRuns, CaughtRuns, ThrownRuns}
+use Rattle.actx_world.specs.Examples.{EmptyFileRuns, ClassRuns, DerivedClassRuns, FunctionRuns, ArrowRuns, BoundRuns, ThroughRuns, TypedRuns, WalkRuns, CaughtRuns, ThrownRuns, DivisionRuns}
 
 pub empty_runs : (form : Form) → EmptyFileRuns form
 unfolding met_binding sequenced
@@ -24,7 +24,7 @@ thrown_runs form = record { ends = refl; events = refl; text = refl }
 
 pub class_runs : (form : Form) → ClassRuns form
 unfolding met_binding sequenced listed stands_on_prototype members_of declared_of
-class_runs form = record { ends = refl; events = refl; made = record { objects = refl; properties = refl; cells = refl }; limited = refl }
+class_runs form = record { ends = refl; events = refl; made = record { objects = refl; properties = refl; cells = refl }; calls = refl; cells = refl; objects = refl; properties = refl; exact = refl; budget = refl; enough = refl }
 
 pub derived_runs : (form : Form) → DerivedClassRuns form
 unfolding met_binding sequenced listed stands_on_prototype members_of declared_of turns loop
@@ -48,7 +48,7 @@ arrow_runs form = record { ends = refl; made = record { objects = refl; properti
 
 pub bound_runs : (form : Form) → BoundRuns form
 unfolding digits met_binding sequenced listed suffixed
-bound_runs form = record { ends = refl; made = record { objects = refl; properties = refl; cells = refl }; text = refl; called = refl }
+bound_runs form = record { ends = refl; made = record { objects = refl; properties = refl; cells = refl }; text = refl; limited = refl; called = refl }
 
 pub through_runs : (form : Form) → ThroughRuns form
 unfolding digits met_binding sequenced listed suffixed
@@ -61,3 +61,7 @@ typed_runs form = record { ends = refl; text = refl }
 pub files_run : (form : Form) → FilesRun form
 unfolding digits met_binding sequenced listed suffixed filled chained stands_on_prototype members_of declared_of utf8_of scalars_of
 files_run form = record { with_super = refl; with_super_prints = refl; with_constructors = refl; with_constructors_prints = refl; with_this = refl; with_this_prints = refl }
+
+pub division_runs : (form : Form) → DivisionRuns form
+unfolding met_binding chained
+division_runs form = record { ends = refl }

@@ -8,8 +8,11 @@ use Rattle.actx_value.specs.declared.ids.ObjId.{ObjId}
 use Rattle.actx_value.specs.declared.operator.UnaryOp.TheVariants as unaries
 use Rattle.actx_value.specs.declared.value.Value.{Value}
 use Rattle.actx_value.specs.declared.value.Value.TheVariants.{Undefined, Null, Num, Text}
-use Rattle.actx_value.specs.declared.end.End.TheVariants.{Finished, Uncaught, Limit}
-use Rattle.actx_value.specs.declared.end.Which.TheVariants.{Calls}
+use Rattle.actx_value.specs.declared.end.End.TheVariants.{Finished, Uncaught, OutOfProfile, Limit}
+use Rattle.actx_value.specs.declared.end.Which.{Which}
+use Rattle.actx_value.specs.declared.end.Which.TheVariants.{Calls, Objects, Properties, Cells, Text as InText}
+use Rattle.actx_value.specs.declared.end.Reason.TheVariants.{Number}
+use Rattle.actx_value.specs.declared.operator.BinaryOp.TheVariants.{Divide}
 use Rattle.actx_code.specs.declared.body.Body.{Body}
 use Rattle.actx_code.specs.declared.body.BodyKind.TheVariants.{File, Function, Arrow, Class, DerivedClass}
 use Rattle.actx_code.specs.declared.form.Form.{Form}
@@ -18,7 +21,7 @@ use Rattle.actx_objects.specs.Objects.{property_count, proto_of}
 use Rattle.actx_want.specs.Run.{Run, Meaning}
 use Rattle.actx_want.specs.Names.{name, changed_plainly}
 use Rattle.actx_want.specs.Members.{Suffixed, plain, change_member, member, suffixes}
-use Rattle.actx_want.specs.Operators.{unary}
+use Rattle.actx_want.specs.Operators.{unary, operand, operators}
 use Rattle.actx_want.specs.Lists.{Listed, single, spread, array}
 use Rattle.actx_want.specs.Calls.{call, new, super_call}
 use Rattle.actx_want.specs.Functions.{function, parameter, rest_parameter}
@@ -29,7 +32,7 @@ use Rattle.actx_want.specs.Loops.{of_loop}
 use Rattle.actx_want.specs.Tries.{bound, try}
 use Rattle.actx_want.specs.Examples.{literal}
 use Rattle.actx_world.specs.Ends.{Most, Ends}
-use Rattle.actx_world.specs.Worlds.{World, world, Last, last_of, EndedBy, printed}
+use Rattle.actx_world.specs.Worlds.{World, world, Last, last_of, EndedBy, Budget, printed}
 use Rattle.actx_world.specs.SmallStore.{small_stores, small_limits, small_setup, doing, body}
 
 -- a run of these bodies and of what they do
@@ -59,6 +62,9 @@ pub record Made (w : World Run) (o p c : ℕ) : Type 0 where
 
 abbrev pub finished : ℕ → Last
 finished k = record { moves = k; ending = EndedBy (Ends Finished) }
+
+abbrev pub limited_at : ℕ → Which → Last
+limited_at k w = record { moves = k; ending = EndedBy (Ends (Limit w)) }
 
 -- the events of a file that prints nothing, the newest first
 abbrev pub events_of_main : List Event
@@ -96,8 +102,17 @@ pub record ClassRuns (form : Form) : Type 0 where
   pub ends : end (class_bodies form) class_meanings ≡ finished 16
   pub events : (run (class_bodies form) class_meanings 16).events ≡ events_of_main
   pub made : Made (run (class_bodies form) class_meanings 16) 3 4 7
-  -- with a depth of two, the move that would begin the constructor is not made
-  pub limited : end_within (record small_limits { calls = 2 }) (class_bodies form) class_meanings 40 ≡ record { moves = 6; ending = EndedBy (Ends (Limit Calls)) }
+  -- with a depth of two, the move that would begin the constructor is not made; nor is it with six cells or two objects
+  pub calls : end_within (record small_limits { calls = 2 }) (class_bodies form) class_meanings 40 ≡ limited_at 6 Calls
+  pub cells : end_within (record small_limits { cells = 6 }) (class_bodies form) class_meanings 40 ≡ limited_at 6 Cells
+  pub objects : end_within (record small_limits { objects = 2 }) (class_bodies form) class_meanings 40 ≡ limited_at 6 Objects
+  -- with three properties, `n` is not written
+  pub properties : end_within (record small_limits { properties = 3 }) (class_bodies form) class_meanings 40 ≡ limited_at 11 Properties
+  -- with these counts exactly it ends as with more
+  pub exact : end_within (record small_limits { calls = 3; objects = 3; properties = 4; cells = 7 }) (class_bodies form) class_meanings 40 ≡ finished 16
+  -- a budget of 15 moves is used up, and one of 16 isn't
+  pub budget : end_within small_limits (class_bodies form) class_meanings 15 ≡ record { moves = 15; ending = Budget }
+  pub enough : end_within small_limits (class_bodies form) class_meanings 16 ≡ finished 16
 
 -- ---- class A {} class B extends A {} new B(1, 2);
 
@@ -161,6 +176,8 @@ pub record BoundRuns (form : Form) : Type 0 where
   pub made : Made (run (one_bodies form) (bound_meanings []) 6) 2 2 0
   -- `bound ` is a new text
   pub text : units_of (run (one_bodies form) (bound_meanings []) 6).state.stores.texts.texts ≡ 6 + units_of small_stores.texts.texts
+  -- with five units it isn't made
+  pub limited : end_within (record small_limits { text = 5 }) (one_bodies form) (bound_meanings []) 40 ≡ limited_at 3 InText
   -- Call and the Do of the bound function, the Do of its target, its end, and the answer
   pub called : end (one_bodies form) (bound_meanings (call false [] ∷ [])) ≡ finished 10
 
@@ -231,3 +248,11 @@ pub record ThrownRuns (form : Form) : Type 0 where
   pub ends : end (file form ∷ []) thrown_meanings ≡ record { moves = 4; ending = EndedBy (Ends (Uncaught (Num (pos 7)))) }
   pub events : (run (file form ∷ []) thrown_meanings 4).events ≡ Print (codes "hi") ∷ Before (record { 0 = 1 }) ∷ Init (record { 0 = 1 }) (codes "ROOT") 0 0 ∷ []
   pub text : printed (run (file form ∷ []) thrown_meanings 4).events ≡ 104 ∷ 105 ∷ 10 ∷ []
+
+-- ---- 1 / 2; the division has no answer in the profile
+
+abbrev pub division_meanings : List Meaning
+division_meanings = operators (literal (Num (pos 1))) (operand Divide (literal (Num (pos 2))) ∷ []) ∷ []
+
+pub record DivisionRuns (form : Form) : Type 0 where
+  pub ends : end (file form ∷ []) division_meanings ≡ record { moves = 1; ending = EndedBy (Ends (OutOfProfile Number)) }

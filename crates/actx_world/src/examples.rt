@@ -3,15 +3,15 @@
 
 ghost use Rattle.actx_code.specs.declared.form.Form.{Form};
 ghost use Rattle.actx_world.specs.FileExamples.{FilesRun};
-ghost use Rattle.actx_world.specs.Examples.{EmptyFileRuns, ClassRuns, DerivedClassRuns, FunctionRuns, ArrowRuns, BoundRuns, ThroughRuns, TypedRuns, WalkRuns, CaughtRuns, ThrownRuns};
+ghost use Rattle.actx_world.specs.Examples.{EmptyFileRuns, ClassRuns, DerivedClassRuns, FunctionRuns, ArrowRuns, BoundRuns, ThroughRuns, TypedRuns, WalkRuns, CaughtRuns, ThrownRuns, DivisionRuns};
 
 /// An empty file is three moves: the Do, the end of its body, and the end of its bracket.
 pub fn an_empty_file_is_three_moves()
     ensures { (form : Form) → EmptyFileRuns form }
 {}
 
-/// `class A { constructor(n) { this.n = n; } } new A(1);` is 16 moves; with a depth of two it ends at
-/// the limit of calls after six.
+/// `class A { constructor(n) { this.n = n; } } new A(1);` is 16 moves; limits of calls, objects,
+/// properties and cells below its counts end it earlier, and so does a budget of 15 moves.
 pub fn a_class_is_made()
     ensures { (form : Form) → ClassRuns form }
 {}
@@ -66,4 +66,9 @@ pub fn a_throw_ends_the_run()
 /// constructors, and with several values of `this`, are 67, 60 and 68 moves.
 pub fn files_of_several_functions()
     ensures { (form : Form) → FilesRun form }
+{}
+
+/// `1 / 2;` leaves the profile after one move.
+pub fn a_division_leaves_the_profile()
+    ensures { (form : Form) → DivisionRuns form }
 {}

@@ -9,10 +9,11 @@ use Rattle.actx_want.specs.Run.{turns, loop}
 use Rattle.actx_want.specs.Lists.{listed, filled}
 use Rattle.actx_want.specs.Members.{suffixed}
 use Rattle.actx_want.specs.Operators.{chained}
+use Rattle.actx_want.specs.Patterns.{items_of}
 use Rattle.actx_want.specs.Classes.{stands_on_prototype, members_of}
 use Rattle.actx_want.specs.Statements.{sequenced, declared_of}
 use Rattle.actx_world.specs.FileExamples.{FilesRun}
-use Rattle.actx_world.specs.Examples.{EmptyFileRuns, ClassRuns, DerivedClassRuns, FunctionRuns, ArrowRuns, BoundRuns, ThroughRuns, TypedRuns, WalkRuns, CaughtRuns, ThrownRuns, DivisionRuns}
+use Rattle.actx_world.specs.Examples.{EmptyFileRuns, ClassRuns, DerivedClassRuns, FunctionRuns, ArrowRuns, BoundRuns, ThroughRuns, TypedRuns, WalkRuns, WalksRun, CaughtRuns, ThrownRuns, DivisionRuns}
 
 pub empty_runs : (form : Form) → EmptyFileRuns form
 unfolding met_binding sequenced
@@ -65,3 +66,15 @@ files_run form = record { with_super = refl; with_super_prints = refl; with_cons
 pub division_runs : (form : Form) → DivisionRuns form
 unfolding met_binding chained
 division_runs form = record { ends = refl }
+
+pub walks_run : (form : Form) → WalksRun form
+unfolding met_binding turns loop items_of
+walks_run form = record {
+  map = refl;
+  map_made = record { objects = refl; properties = refl; cells = refl };
+  set = refl;
+  set_made = record { objects = refl; properties = refl; cells = refl };
+  text = refl;
+  text_made = record { objects = refl; properties = refl; cells = refl };
+  units = refl;
+}

@@ -24,8 +24,8 @@ use Rattle.actx_want.specs.Members.{Suffixed, plain, change_member, member, suff
 use Rattle.actx_want.specs.Operators.{unary, operand, operators}
 use Rattle.actx_want.specs.Lists.{Listed, single, spread, array}
 use Rattle.actx_want.specs.Calls.{call, new, super_call}
-use Rattle.actx_want.specs.Functions.{function, parameter, rest_parameter}
-use Rattle.actx_want.specs.Patterns.{slot}
+use Rattle.actx_want.specs.Functions.{Binding, function, parameter, rest_parameter}
+use Rattle.actx_want.specs.Patterns.{slot, elements}
 use Rattle.actx_want.specs.Classes.{class}
 use Rattle.actx_want.specs.Statements.{sequence, init, block, returned, thrown}
 use Rattle.actx_want.specs.Loops.{of_loop}
@@ -48,7 +48,7 @@ end bodies meanings = end_within small_limits bodies meanings 40
 
 -- the n-th object that the run made, from 0
 abbrev pub made_object : ℕ → ObjId
-made_object n = record { 0 = 8 + n }
+made_object n = record { 0 = length small_stores.objects.objects + n }
 
 -- the prototype of the n-th object that the run made, from 0
 abbrev pub prototype_of : World Run → ℕ → Option ObjId
@@ -56,9 +56,9 @@ prototype_of w n = proto_of w.state.stores.objects (made_object n)
 
 -- how many objects, properties, and scopes with their cells the run made
 pub record Made (w : World Run) (o p c : ℕ) : Type 0 where
-  pub objects : length w.state.stores.objects.objects ≡ 8 + o
-  pub properties : property_count w.state.stores.objects.objects ≡ 4 + p
-  pub cells : count_of w.state.stores.cells.scopes ≡ 2 + c
+  pub objects : length w.state.stores.objects.objects ≡ length small_stores.objects.objects + o
+  pub properties : property_count w.state.stores.objects.objects ≡ property_count small_stores.objects.objects + p
+  pub cells : count_of w.state.stores.cells.scopes ≡ count_of small_stores.cells.scopes + c
 
 abbrev pub finished : ℕ → Last
 finished k = record { moves = k; ending = EndedBy (Ends Finished) }
@@ -229,6 +229,23 @@ walk_meanings = of_loop 1 (slot 0) (array (single (literal (Num (pos 1))) ∷ si
 pub record WalkRuns (form : Form) : Type 0 where
   pub ends : end (file form ∷ []) walk_meanings ≡ finished 15
   pub made : Made (run (file form ∷ []) walk_meanings 15) 2 2 4
+
+-- ---- for (const [k] of map) ; for (const v of set) ; for (const c of text) ; a Map and a Set of one entry, and a text of a
+-- ---- unit and a pair of surrogates
+
+abbrev pub walked : Binding → Meaning → List Meaning
+walked target value = of_loop 1 target value (literal Undefined) ∷ []
+
+pub record WalksRun (form : Form) : Type 0 where
+  -- two walks and an array of key and value
+  pub map : end (file form ∷ []) (walked (elements (slot 0 ∷ []) None) (name 0 1)) ≡ finished 14
+  pub map_made : Made (run (file form ∷ []) (walked (elements (slot 0 ∷ []) None) (name 0 1)) 14) 3 2 2
+  pub set : end (file form ∷ []) (walked (slot 0) (name 0 2)) ≡ finished 11
+  pub set_made : Made (run (file form ∷ []) (walked (slot 0) (name 0 2)) 11) 1 0 2
+  -- two items, which are new texts of three units together
+  pub text : end (file form ∷ []) (walked (slot 0) (literal (text_number 20))) ≡ finished 14
+  pub text_made : Made (run (file form ∷ []) (walked (slot 0) (literal (text_number 20))) 14) 1 0 4
+  pub units : units_of (run (file form ∷ []) (walked (slot 0) (literal (text_number 20))) 14).state.stores.texts.texts ≡ units_of small_stores.texts.texts + 3
 
 -- ---- try { null.n; } catch (e) {}
 

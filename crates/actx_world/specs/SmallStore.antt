@@ -1,12 +1,12 @@
 -- A small store for the examples: a few built-in objects and texts that stand in for all of them.
-use Rattle.std.specs.Prelude.{◌++◌, unwrap_or, ℕ, Bool, true, false, List, [], ◌∷◌, codes, slice_get, Option, Some, None}
+use Rattle.std.specs.Prelude.{pos, ◌++◌, unwrap_or, ℕ, Bool, true, false, List, [], ◌∷◌, codes, slice_get, Option, Some, None}
 use Rattle.actx_tree.specs.declared.function.Flow.TheVariants as flows
 use Rattle.actx_value.specs.declared.ids.ScopeId.{ScopeId}
 use Rattle.actx_value.specs.declared.caller_id.CallerId.TheVariants as callers
 use Rattle.actx_value.specs.declared.value.Key.{Key}
 use Rattle.actx_value.specs.declared.value.Key.TheVariants.{Name}
 use Rattle.actx_value.specs.declared.value.Value.{Value}
-use Rattle.actx_value.specs.declared.value.Value.TheVariants.{Undefined, Object}
+use Rattle.actx_value.specs.declared.value.Value.TheVariants.{Num, Undefined, Object}
 use Rattle.actx_code.specs.declared.body.Body.{Body}
 use Rattle.actx_code.specs.declared.body.BodyKind.{BodyKind}
 use Rattle.actx_code.specs.declared.form.Form.{Form}
@@ -42,6 +42,16 @@ printing = record {
   entries = record { standing = []; places = 0 };
 }
 
+-- a Map or a Set with one entry
+abbrev collection : Kind → ℕ → AnObject
+collection kind n = record {
+  kind = kind;
+  proto = None;
+  frozen = true;
+  props = [];
+  entries = record { standing = (Num (pos n), record { place = 0; value = Num (pos 2) }) ∷ []; places = 1 };
+}
+
 abbrev functions : AnObject
 functions = record {
   kind = kinds.Plain;
@@ -51,25 +61,30 @@ functions = record {
   entries = record { standing = []; places = 0 };
 }
 
--- the prototypes of objects, functions, arrays and errors; a function that prints; and `call`, `apply` and `bind` of
--- functions
+-- the prototypes of objects, functions, arrays and errors; a function that prints; `call`, `apply` and `bind` of
+-- functions; a Map and a Set
 abbrev pub small_stores : Stores
 small_stores = record {
   objects = record {
     objects =
         built_in kinds.Plain ∷ functions ∷ built_in kinds.Plain ∷ built_in kinds.Plain
-        ∷ printing ∷ built_in kinds.Native ∷ built_in kinds.Native ∷ built_in kinds.Native ∷ [];
+        ∷ printing ∷ built_in kinds.Native ∷ built_in kinds.Native ∷ built_in kinds.Native
+        ∷ collection kinds.Map 1 ∷ collection kinds.Set 2 ∷ [];
     most_objects = 0;
     most_properties = 0;
   };
   texts = record {
     texts = codes "" ∷ codes "name" ∷ codes "prototype" ∷ codes "constructor" ∷ codes "message" ∷ codes "length" ∷ codes "size" ∷ codes "bad" ∷ codes "A" ∷ codes "n" ∷ codes "hi"
         ∷ codes "call" ∷ codes "apply" ∷ codes "bind" ∷ codes "object" ∷ codes "function"
-        ∷ codes "log" ∷ codes "v" ∷ codes "k" ∷ codes "get" ∷ [];
+        ∷ codes "log" ∷ codes "v" ∷ codes "k" ∷ codes "get"
+        ∷ (97 ∷ 0xD83D ∷ 0xDE00 ∷ []) ∷ [];
     limit = 0;
   };
   cells = record {
-    scopes = record { parent = None; cells = Some (Object (record { 0 = 4 })) ∷ [] } ∷ [];
+    scopes = record {
+      parent = None;
+      cells = Some (Object (record { 0 = 4 })) ∷ Some (Object (record { 0 = 8 })) ∷ Some (Object (record { 0 = 9 })) ∷ [];
+    } ∷ [];
     limit = 0;
   };
 }

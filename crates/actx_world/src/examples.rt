@@ -3,7 +3,7 @@
 
 ghost use Rattle.actx_code.specs.declared.form.Form.{Form};
 ghost use Rattle.actx_world.specs.FileExamples.{FilesRun};
-ghost use Rattle.actx_world.specs.Examples.{EmptyFileRuns, ClassRuns, DerivedClassRuns, FunctionRuns, ArrowRuns, BoundRuns, ThroughRuns, TypedRuns, WalkRuns, CaughtRuns, ThrownRuns, DivisionRuns};
+ghost use Rattle.actx_world.specs.Examples.{EmptyFileRuns, ClassRuns, DerivedClassRuns, FunctionRuns, ArrowRuns, BoundRuns, ThroughRuns, TypedRuns, WalkRuns, WalksRun, CaughtRuns, ThrownRuns, DivisionRuns};
 
 /// An empty file is three moves: the Do, the end of its body, and the end of its bracket.
 pub fn an_empty_file_is_three_moves()
@@ -50,6 +50,11 @@ pub fn a_function_is_called()
 /// `for (const x of [1, 2]) ;` is 15 moves.
 pub fn an_array_is_walked()
     ensures { (form : Form) → WalkRuns form }
+{}
+
+/// A Map and a Set of one entry, and a text with a pair of surrogates, are walked: 14, 11 and 14 moves.
+pub fn maps_sets_and_texts_are_walked()
+    ensures { (form : Form) → WalksRun form }
 {}
 
 /// `try { null.n; } catch (e) {}` is six moves, and makes the error.

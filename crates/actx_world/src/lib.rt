@@ -12,7 +12,7 @@ pub use examples::{
     a_class_is_made, a_derived_class_is_made, a_division_leaves_the_profile, a_function_is_bound,
     a_function_is_called, a_throw_ends_the_run, an_array_is_walked, an_arrow_calls_super,
     an_empty_file_is_three_moves, an_error_is_caught, call_and_apply_cost_a_call,
-    files_of_several_functions, types_are_printed,
+    files_of_several_functions, maps_sets_and_texts_are_walked, types_are_printed,
 };
 pub use handed::{BodyEnd, Handed};
 pub use laws::{growing, last_step, limits, nesting, replaying, same_events, standing, validity};

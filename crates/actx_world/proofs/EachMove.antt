@@ -1,7 +1,7 @@
 -- Every move keeps the brackets, and a stack that stands well.
-use Rattle.std.proofs.Common.{◌≡◌, ℕ, zero, suc, ◌+◌, Bool, true, false, List, [], ◌∷◌, ◌++◌, Option, Some, None, if◌then◌else◌, length, reverse, refl, sym, ap, subst, ◌∙◌, arith}
+use Rattle.std.proofs.Common.{nat_lt, ◌≡◌, ℕ, zero, suc, ◌+◌, Bool, true, false, List, [], ◌∷◌, ◌++◌, Option, Some, None, if◌then◌else◌, length, reverse, refl, sym, ap, subst, ◌∙◌, arith}
 use Rattle.std.proofs.lemmas.List.{append_assoc, reverse-reverse}
-use Rattle.std.specs.Option.{option_or}
+use Rattle.std.specs.Option.{option_map, option_or}
 use Rattle.actx_text.specs.declared.body_id.BodyId.{BodyId}
 use Rattle.actx_event.specs.declared.event.Event.{Event}
 use Rattle.actx_event.specs.declared.bracket.Bracket.{Bracket}
@@ -18,6 +18,9 @@ use Rattle.actx_value.specs.declared.request.Request.TheVariants as requests
 use Rattle.actx_value.specs.declared.operator.UnaryOp.TheVariants as unary
 use Rattle.actx_value.specs.declared.operator.BinaryOp.TheVariants as binary
 use Rattle.actx_value.specs.declared.error_kind.ErrorKind.TheVariants.{TypeError, ReferenceError}
+use Rattle.actx_value.specs.declared.end.End.TheVariants as ends
+use Rattle.actx_value.specs.declared.end.Which.{Which}
+use Rattle.actx_value.specs.declared.end.Which.TheVariants.{Turns}
 use Rattle.actx_cells.specs.Scopes.{cell_of}
 use Rattle.actx_request.specs.Outcomes.{Stores, Outcome}
 use Rattle.actx_request.specs.Answers.{outcome_of}
@@ -35,11 +38,18 @@ use Rattle.actx_world.specs.Walks.{Walked, Walkable, LaterWalk, NotIterable, wal
 use Rattle.actx_world.specs.Looks.{type_of, is_in, is_instance}
 use Rattle.actx_world.specs.Wishes.{class_of, row_request, this_or_error, end_of_constructor, end_of_derived, row_return, row_wants}
 use Rattle.actx_world.specs.Rows.{main_events, main_activation, row_main, row_do, closing_by, is_quiet, row_body, row_item, popped, next_by}
-use Rattle.actx_world.specs.Ends.{Most, Ended}
+use Rattle.actx_world.specs.Ends.{Most, Ended, Ends, ended_by, first_above}
 use Rattle.actx_world.specs.Worlds.{walked, World, moved_by, next_of, end_of, world}
 use Rattle.actx_world.specs.Laws.{brackets, closings, NestsAfter, IsValidAfter, IsGround, IsBelow, StandsWell}
 use Rattle.actx_world.proofs.Facts.{Nested, Stands, Ready, Keeps, Begins, same_brackets, body_on, hand_on, keeps_closing, keeps_handed, keeps_gives, keeps_throws, keeps_given}
 use Rattle.actx_world.proofs.CallRows.{keeps_call, keeps_construct, keeps_new, keeps_super}
+
+-- what a move keeps, whatever an end is
+abbrev Moves : {B : Type 0} → List Event → Next B → Type 0
+Moves es (On m) = Stands m.state.stack m.state.hand (m.adds ++ es)
+Moves es TurnDue = Unit {0}
+Moves es (Over e) = Unit {0}
+Moves es Unbuilt = Unit {0}
 
 module _ {B : Type 0} (bodies : Bodies B) (setup : Setup) where
   keeps_outcome : (a : Activation B) (o : Outcome) (s : State B) (es : List Event) → Ready s.stack s.hand es → Keeps es (outcome_to bodies setup.builtins a o s)
@@ -161,20 +171,47 @@ module _ {B : Type 0} (bodies : Bodies B) (setup : Setup) where
   keeps_item oracle (Hooks calls held) h s es q n = tt
   keeps_item oracle (Close b marked) h s es q n = keeps_close b marked h s.stack s es n
 
-  keeps_idle : (t : Bool) (e : Next B) (es : List Event) → Keeps es e → Keeps es (if t then e else Unbuilt)
-  keeps_idle true e es k = k
-  keeps_idle false e es k = tt
+  moves_idle : (t : Bool) (es : List Event) → Moves {B = B} es (if t then Over ends.Finished else Unbuilt)
+  moves_idle true es = tt
+  moves_idle false es = tt
 
-  keeps_next : (oracle : Oracle) (stack : List (Item B)) (h : Option Handed) (s : State B) (es : List Event) → Stands stack h es → Keeps es (next_by bodies setup oracle stack h s)
-  keeps_next oracle [] h s es n = keeps_idle (is_quiet s) _ es tt
-  keeps_next oracle (i ∷ rest) h s es n = keeps_item oracle i h (popped rest s) es refl n
+  weaker : (next : Next B) (es : List Event) → Keeps es next → Moves es next
+  weaker (On m) es k = k
+  weaker TurnDue es k = tt
+  weaker (Over e) es k = tt
+  weaker Unbuilt es k = tt
 
-keeps_moved : {B : Type 0} (e : Option Ended) (next : Next B) (w : World B) → Stands w.state.stack w.state.hand w.events → Keeps w.events next → Stands (moved_by e next w).state.stack (moved_by e next w).state.hand (moved_by e next w).events
-keeps_moved None (On m) w n k = k
-keeps_moved None TurnDue w n k = n
-keeps_moved None (Over e) w n k = n
-keeps_moved None Unbuilt w n k = n
-keeps_moved (Some e) next w n k = n
+  moves_next : (oracle : Oracle) (stack : List (Item B)) (h : Option Handed) (s : State B) (es : List Event) → Stands stack h es → Moves es (next_by bodies setup oracle stack h s)
+  moves_next oracle [] h s es n = moves_idle (is_quiet s) es
+  moves_next oracle (i ∷ rest) h s es n = weaker _ es (keeps_item oracle i h (popped rest s) es refl n)
+
+  -- a run is finished only where nothing stands
+  finished_alone : (oracle : Oracle) (stack : List (Item B)) (h : Option Handed) (s : State B) (es : List Event) → Stands stack h es → next_by bodies setup oracle stack h s ≡ Over ends.Finished → stack ≡ []
+  finished_alone oracle [] h s es n q = refl
+  finished_alone oracle (i ∷ rest) h s es n q = absurd (subst (Keeps es) q (keeps_item oracle i h (popped rest s) es refl n))
+
+moved_stands : {B : Type 0} (e : Option Ended) (next : Next B) (w : World B) → Stands w.state.stack w.state.hand w.events → Moves w.events next → Stands (moved_by e next w).state.stack (moved_by e next w).state.hand (moved_by e next w).events
+moved_stands None (On m) w n k = k
+moved_stands None TurnDue w n k = n
+moved_stands None (Over e) w n k = n
+moved_stands None Unbuilt w n k = n
+moved_stands (Some e) next w n k = n
+
+-- ---- a finished run
+
+no_limit : (o : Option Which) → option_map (λ w. Ends (ends.Limit w)) o ≡ Some (Ends ends.Finished) → ⊥
+no_limit None h = cc
+no_limit (Some w) h = cc
+
+no_turn : (t : Bool) → (if t then Some (Ends (ends.Limit Turns)) else None) ≡ Some (Ends ends.Finished) → ⊥
+no_turn true h = cc
+no_turn false h = cc
+
+finished_next : {B : Type 0} (most : Most) (s : State B) (es : List Event) (next : Next B) → ended_by most s es next ≡ Some (Ends ends.Finished) → next ≡ Over ends.Finished
+finished_next most s es (On m) h = absurd (no_limit (first_above most m.state (m.adds ++ es)) h)
+finished_next most s es TurnDue h = absurd (no_turn (nat_lt most.turns (suc s.turns)) h)
+finished_next most s es (Over e) h = let same : e ≡ ends.Finished = cc in ap Over same
+finished_next most s es Unbuilt h = absurd cc
 
 -- ---- valid logs
 
@@ -202,7 +239,7 @@ module _ {B : Type 0} (bodies : Bodies B) (setup : Setup) (most : Most) where
   stands stores zero = record { nested = record { open_ones = refl; nests = refl; unbroken = refl; made = tt }; well = (refl, refl); begins = refl }
   stands stores (suc k) =
       let w = world bodies setup most stores k in
-      keeps_moved (end_of bodies setup most w) (next_of bodies setup most w) w (stands stores k) (keeps_next bodies setup (walked w.events) w.state.stack w.state.hand w.state w.events (stands stores k))
+      moved_stands (end_of bodies setup most w) (next_of bodies setup most w) w (stands stores k) (moves_next bodies setup (walked w.events) w.state.stack w.state.hand w.state w.events (stands stores k))
 
   pub nests_after : (stores : Stores) (k : ℕ) → NestsAfter bodies setup most stores k
   nests_after stores k = record { open_ones = (stands stores k).nested.open_ones; nests = (stands stores k).nested.nests }
@@ -210,10 +247,16 @@ module _ {B : Type 0} (bodies : Bodies B) (setup : Setup) (most : Most) where
   pub stands_well : (stores : Stores) (k : ℕ) → StandsWell (world bodies setup most stores k).state.stack (world bodies setup most stores k).state.hand
   stands_well stores k = (stands stores k).well
 
+  nothing_stands : (stores : Stores) (k : ℕ) → end_of bodies setup most (world bodies setup most stores k) ≡ Some (Ends ends.Finished) → (world bodies setup most stores k).state.stack ≡ []
+  nothing_stands stores k q =
+      let w = world bodies setup most stores k in
+      finished_alone bodies setup (walked w.events) w.state.stack w.state.hand w.state w.events (stands stores k)
+      (finished_next most w.state w.events (next_of bodies setup most w) q)
+
   pub valid_after : (stores : Stores) (k : ℕ) → IsValidAfter bodies setup most stores k
   valid_after stores k =
       let n = (stands stores k).nested in
-      record { unbroken = n.unbroken; valid = λ q. closed_valid (world bodies setup most stores k).events n.unbroken (n.open_ones ∙ ap closings q) }
+      record { unbroken = n.unbroken; valid = λ q. closed_valid (world bodies setup most stores k).events n.unbroken (n.open_ones ∙ ap closings (nothing_stands stores k q)) }
 
   pub grow : (stores : Stores) (k n : ℕ) → (later : List Event) × ((world bodies setup most stores (n + k)).events ≡ later ++ (world bodies setup most stores k).events)
   grow stores k zero = let none : 0 + k ≡ k = omega arith in ([], ap (λ j. (world bodies setup most stores j).events) none)

@@ -15,6 +15,8 @@ use Rattle.actx_event.specs.Brackets.{same_bracket, with_closed, opened, has_ope
 use Rattle.actx_value.specs.declared.ids.ObjId.{ObjId}
 use Rattle.actx_value.specs.declared.value.Value.{Value}
 use Rattle.actx_value.specs.declared.error_kind.ErrorKind.{ErrorKind}
+use Rattle.actx_value.specs.declared.end.End.{End}
+use Rattle.actx_value.specs.declared.end.End.TheVariants as ends
 use Rattle.actx_request.specs.declared.given.Given.{Given}
 use Rattle.actx_request.specs.declared.given.Given.TheVariants as given
 use Rattle.actx_world.specs.declared.handed.Handed.{Handed}
@@ -59,11 +61,19 @@ pub record Ready {B : Type 0} (stack : List (Item B)) (h : Option Handed) (es : 
   pub empty : h ≡ None
   pub ground : IsGround stack
 
--- a move keeps it; the others don't move
+-- an end that isn't for want of anything to do
+abbrev pub GoesOn : End → Type 0
+GoesOn ends.Finished = ⊥
+GoesOn (ends.Exited status) = Unit {0}
+GoesOn (ends.Uncaught v) = Unit {0}
+GoesOn (ends.OutOfProfile r) = Unit {0}
+GoesOn (ends.Limit w) = Unit {0}
+
+-- a move keeps it; the others don't move, and where an item stands the run isn't finished
 abbrev pub Keeps : {B : Type 0} → List Event → Next B → Type 0
 Keeps es (On m) = Stands m.state.stack m.state.hand (m.adds ++ es)
 Keeps es TurnDue = Unit {0}
-Keeps es (Over e) = Unit {0}
+Keeps es (Over e) = GoesOn e
 Keeps es Unbuilt = Unit {0}
 
 -- ---- closing

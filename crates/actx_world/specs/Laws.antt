@@ -6,13 +6,14 @@ use Rattle.actx_event.specs.declared.bracket.Open.{Open}
 use Rattle.actx_event.specs.Brackets.{opened, nests}
 use Rattle.actx_event.specs.Mappings.{carried}
 use Rattle.actx_event.specs.Valid.{first_broken, IsValid}
+use Rattle.actx_value.specs.declared.end.End.TheVariants.{Finished}
 use Rattle.actx_request.specs.Outcomes.{Stores}
 use Rattle.actx_world.specs.declared.handed.Handed.{Handed}
 use Rattle.actx_world.specs.Setup.{Bodies, Setup}
 use Rattle.actx_world.specs.State.{Due, Main, Call, Construct, Item, Body, Do, Reply, Hooks, Close}
 use Rattle.actx_request.specs.Limits.{first_above as above_by_request}
 use Rattle.actx_world.specs.Moves.{TurnDue}
-use Rattle.actx_world.specs.Ends.{Most, first_above, above_in_stores, Ended}
+use Rattle.actx_world.specs.Ends.{Most, first_above, above_in_stores, Ended, Ends}
 use Rattle.actx_world.specs.Worlds.{world, carried_world, next_of, end_of, carried_end, Last, EndedBy, Budget, TapeEnded, last_of}
 
 -- ---- both worlds
@@ -95,10 +96,10 @@ StacksStandWell B =
 
 -- ---- logs
 
--- no event of a world breaks a rule of valid logs, and where nothing is left on the stack the log is valid
+-- no event of a world breaks a rule of valid logs, and the log of a finished run is valid
 pub record IsValidAfter {B : Type 0} (bodies : Bodies B) (setup : Setup) (most : Most) (stores : Stores) (k : ℕ) : Type 0 where
   pub unbroken : first_broken (world bodies setup most stores k).events ≡ None
-  pub valid : (world bodies setup most stores k).state.stack ≡ [] → IsValid (reverse (world bodies setup most stores k).events)
+  pub valid : end_of bodies setup most (world bodies setup most stores k) ≡ Some (Ends Finished) → IsValid (reverse (world bodies setup most stores k).events)
 
 abbrev pub LogsAreValid : Type 0 → Type 0
 LogsAreValid B = (bodies : Bodies B) (setup : Setup) (most : Most) (stores : Stores) (k : ℕ) → IsValidAfter bodies setup most stores k

@@ -56,8 +56,7 @@ pub fn growing()
     ensures replays { EventsGrow Replay }
 {}
 
-/// No event breaks a rule of valid logs, after every number of moves; where nothing is left on the stack,
-/// the log is valid.
+/// No event breaks a rule of valid logs, after every number of moves; the log of a finished run is valid.
 pub fn validity()
     ensures rests { LogsAreValid Run }
     ensures replays { LogsAreValid Replay }

@@ -12,3 +12,4 @@ pub mod Patterns
 pub mod BodyFinds
 pub mod Knots
 pub mod Totals
+pub mod Founds

@@ -43,14 +43,14 @@ unfoldable pub last_slot : Units → Scope → ℕ → Option (ℕ × Bool)
 last_slot name [] i = None
 last_slot name (s ∷ ss) i = or_else (last_slot name ss (i + 1)) (if is_word name s.name then Some (i, s.is_fixed) else None)
 
-abbrev found_at : ℕ → Bool → ℕ × Bool → Found
+abbrev pub found_at : ℕ → Bool → ℕ × Bool → Found
 found_at hops is_global x = record { hops = hops; slot = x.0; is_global = is_global; is_fixed = x.1 }
 
-abbrev found_or : Option (ℕ × Bool) → ℕ → Option Found → Option Found
+abbrev pub found_or : Option (ℕ × Bool) → ℕ → Option Found → Option Found
 found_or None hops further = further
 found_or (Some x) hops further = Some (found_at hops false x)
 
-abbrev global_at : Option (ℕ × Bool) → ℕ → Option Found
+abbrev pub global_at : Option (ℕ × Bool) → ℕ → Option Found
 global_at None hops = None
 global_at (Some x) hops = Some (found_at hops true x)
 

@@ -67,40 +67,31 @@ impl Scopes {
         }
     }
 
-    /// What a name means here, if it means anything. More scopes than a `usize` counts have no room.
-    pub fn find(&self, name: &Units) -> Result<Option<Found>, AllocError>
-        ensures { IfOk result (λ x. x ≡ found self.now name.now) }
+    /// What a name means here, if it means anything.
+    pub fn find(&self, name: &Units) -> Option<Found>
+        ensures { result ≡ found self.now name.now }
     {
         find_in(self.tables.as_slice(), name)
     }
 }
 
 /// What a name means in the scopes of these tables, which come from the outside in.
-fn find_in(tables: &[Table], name: &Units) -> Result<Option<Found>, AllocError>
-    ensures { IfOk result (λ x. x ≡ found (reverse tables.now) name.now) }
+fn find_in(tables: &[Table], name: &Units) -> Option<Found>
+    ensures { result ≡ found (reverse tables.now) name.now }
 {
-    let mut left = tables;
-    let mut hops = 0usize;
-    loop {
-        match left {
-            [] => return Ok(global_found(name, hops)),
-            [rest @ .., table] => {
-                if let Some((slot, is_fixed)) = table.last(name) {
-                    return Ok(Some(Found {
-                        hops,
-                        slot,
-                        is_global: false,
-                        is_fixed,
-                    }));
-                }
-                let Some(next) = hops.checked_add(1) else {
-                    return Err(AllocError);
-                };
-                hops = next;
-                left = rest;
-            }
+    let count = tables.len();
+    for hops in 0..count {
+        let table = &tables[count - 1 - hops];
+        if let Some((slot, is_fixed)) = table.last(name) {
+            return Some(Found {
+                hops,
+                slot,
+                is_global: false,
+                is_fixed,
+            });
         }
     }
+    global_found(name, count)
 }
 
 /// What a name means outside of all scopes, so many scopes out.

@@ -117,7 +117,7 @@ impl<F: Fn(Bodies<'_>, Unread, Place, &mut Walk) -> Result<(), AllocError>> Inne
     ) -> Result<(), AllocError>
         ensures { OnOk result (Adds (inside_of self.now.bodies) (nodes.name_node name.now) role place walk.old walk.new) }
     {
-        let found = walk.scopes.find(name)?;
+        let found = walk.scopes.find(name);
         walk.add(name_error(role, found), found)
     }
 

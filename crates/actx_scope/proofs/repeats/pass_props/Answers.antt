@@ -10,7 +10,7 @@ loop-prop-init c = record { names = refl; keeps = refl }
 pub loop-prop-preserved : goal.loop-prop-preserved
 loop-prop-preserved c = let h : c.loop-prop.prop-index < length c.args.props.now = omega (arith, c.loop-prop-test.true) in record {
   names = more _ _ _ _ _ _ c.in_ok-pass_prop.ensures (names-left prop_part c.args.props.now c.loop-prop.prop-index c.prop-item.result h c.prop-item.is) c.loop-prop.invariant.names;
-  keeps = repeats_more prop_part c.args.props.now c.loop-prop.prop-index c.prop-item.result c.loop-prop.repeats _ _ c.loop-prop.earlier _ h c.prop-item.is (rw c.prop_repeats.ensures at c.either.ensures) c.in_ok-pass_prop.ensures c.loop-prop.invariant.keeps;
+  keeps = repeats_more prop_part c.args.props.now c.loop-prop.prop-index c.prop-item.result c.loop-prop.repeats _ _ c.loop-prop.earlier _ h c.prop-item.is (rw c.prop_repeats.ensures at c.either-repeats.ensures) c.in_ok-pass_prop.ensures c.loop-prop.invariant.keeps;
 }
 
 pub returns-clause-whether : goal.returns-clause-whether

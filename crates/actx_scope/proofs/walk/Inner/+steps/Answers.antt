@@ -25,7 +25,7 @@ pub of_stmt-returns-in-Class : goal.of_stmt-returns-in-Class
 of_stmt-returns-in-Class g t c = rw (c.in-Class.is, stmt.statement-Class) (role_ok _ roles.Declared _ _ _ _ _ _ c.of_class.ensures)
 
 pub of_stmt-returns-in-Empty : goal.of_stmt-returns-in-Empty
-of_stmt-returns-in-Empty g t c = rw (c.in-Empty.is, stmt.statement-Empty) (leaf_ok _ nodes.sound _ _ _ _ c.add.result c.add.ensures)
+of_stmt-returns-in-Empty g t c = rw (c.in-Empty.is, stmt.statement-Empty) (leaf_ok _ nodes.sound _ _ _ _ c.add-in-Empty.result c.add-in-Empty.ensures)
 
 pub of_stmt-returns-in_ok-of_block-in-Block : goal.of_stmt-returns-in_ok-of_block-in-Block
 of_stmt-returns-in_ok-of_block-in-Block g t c = rw (c.in-Block.is, stmt.statement-Block) (adds-node _ nodes.sound (statements.block (map statements.statement c.in-Block.items)) _ _ _ _ _ c.in_ok-add-in-Block.ensures (rw c.as_slice-in-Block.ensures at c.in_ok-of_block-in-Block.ensures))
@@ -104,3 +104,12 @@ of_items-loop-item-preserved g t c = let h : c.loop-item.item-index < length c.a
 
 pub of_items-returns : goal.of_items-returns
 of_items-returns g t c = let h : length c.args.items.now ≤ c.loop-item.item-index = omega (arith, c.loop-item-test.false) in bound-nothing _ _ _ _ _ _ _ _ _ c.loop-item.invariant (order-done c.args.items.now c.loop-item.item-index _ h) (declared-done c.args.items.now c.loop-item.item-index h)
+
+pub of_for_body-of_stmt-requires : goal.of_for_body-of_stmt-requires
+of_for_body-of_stmt-requires g t c = ?
+
+pub of_last-of_block-requires : goal.of_last-of_block-requires
+of_last-of_block-requires g t c = ?
+
+pub of_stmt-of_for_body-requires : goal.of_stmt-of_for_body-requires
+of_stmt-of_for_body-requires g t c = ?

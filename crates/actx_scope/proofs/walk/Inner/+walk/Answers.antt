@@ -245,13 +245,13 @@ pub of_members-loop-member-init : goal.of_members-loop-member-init
 of_members-loop-member-init g t c = owes-all _ _ _ _ _
 
 pub of_members-loop-member-preserved : goal.of_members-loop-member-preserved
-of_members-loop-member-preserved g t c = let h : c.loop-member.member-index < length c.args.members.now = omega (arith, c.loop-member-test.true) in rw (c.either.ensures, c.is_constructor_member-is_constructor.ensures) (owes-less _ _ ((nodes.member_part_of c.member-item.result).marks) (nodes.members_marks (map nodes.member_part_of (drop (c.loop-member.member-index + 1) c.args.members.now)) c.args.has_parent (c.loop-member.has_constructor || nodes.is_constructor (nodes.member_part_of c.member-item.result))) _ _ _ _ (owned_place (owner.Class c.args.has_parent c.loop-member.has_constructor) c.args.place) _ _ _ (rw c.owned_by.ensures at c.in_ok-of_member.ensures) c.loop-member.invariant (members-left c.args.members.now c.loop-member.member-index c.member-item.result c.args.has_parent c.loop-member.has_constructor _ h c.member-item.is))
+of_members-loop-member-preserved g t c = let h : c.loop-member.member-index < length c.args.members.now = omega (arith, c.loop-member-test.true) in rw (c.either-has_constructor.ensures, c.is_constructor_member-is_constructor.ensures) (owes-less _ _ ((nodes.member_part_of c.member-item.result).marks) (nodes.members_marks (map nodes.member_part_of (drop (c.loop-member.member-index + 1) c.args.members.now)) c.args.has_parent (c.loop-member.has_constructor || nodes.is_constructor (nodes.member_part_of c.member-item.result))) _ _ _ _ (owned_place (owner.Class c.args.has_parent c.loop-member.has_constructor) c.args.place) _ _ _ (rw c.owned_by.ensures at c.in_ok-of_member.ensures) c.loop-member.invariant (members-left c.args.members.now c.loop-member.member-index c.member-item.result c.args.has_parent c.loop-member.has_constructor _ h c.member-item.is))
 
 pub of_members-returns : goal.of_members-returns
 of_members-returns g t c = let h : length c.args.members.now ≤ c.loop-member.member-index = omega (arith, c.loop-member-test.false) in owes-nothing _ _ _ _ _ _ _ c.loop-member.invariant (members-done c.args.members.now c.loop-member.member-index c.args.has_parent c.loop-member.has_constructor _ h)
 
-pub of_member-returns-then-member : goal.of_member-returns-then-member
-of_member-returns-then-member g t c = rw (part.member_part_of-fields, c.if-member.true) (adds-owner _ owner.Other ((nodes.method_part _).marks) _ _ _ _ (rw c.owned_by.ensures at c.in_ok-of_method.ensures))
+pub of_member-returns-in_ok-of_method : goal.of_member-returns-in_ok-of_method
+of_member-returns-in_ok-of_method g t c = rw (part.member_part_of-fields, c.if-member.true) (adds-owner _ owner.Other ((nodes.method_part _).marks) _ _ _ _ (rw c.owned_by.ensures at c.in_ok-of_method.ensures))
 
 pub of_member-returns-else-member : goal.of_member-returns-else-member
 of_member-returns-else-member g t c = rw (part.member_part_of-fields, c.if-member.false) c.of_method-else-member.ensures
@@ -300,3 +300,9 @@ of_elem-returns g t c = rw (part.elem_part-fields) (adds-both _ _ _ _ _ _ _ _ c.
 
 pub of_params-returns : goal.of_params-returns
 of_params-returns g t c = rw (part.params_part-fields) (params_adds _ (map nodes.elem_part _) (nodes.mapped nodes.target_part _) _ _ _ _ _ c.len-start.result c.len-start.ensures (rw c.as_slice.ensures at c.in_ok-of_elems.ensures) c.in_ok-of_rest.ensures refl refl c.back_to.ensures)
+
+pub of_new_arguments-of_arguments-requires : goal.of_new_arguments-of_arguments-requires
+of_new_arguments-of_arguments-requires g t c = ?
+
+pub of_value_behind-of_expr-requires : goal.of_value_behind-of_expr-requires
+of_value_behind-of_expr-requires g t c = ?

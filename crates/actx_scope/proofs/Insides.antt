@@ -1,6 +1,6 @@
 -- Parts in scopes that are left again, and parts behind names: `a` is the walk before, `b` inside, `d` behind the part, `e` at
 -- the end.
-use Rattle.std.proofs.Common.{◌≡◌, ℕ, Bool, true, false, List, [], ◌∷◌, ◌++◌, length, take, refl, sym, ap, ◌∙◌, append_assoc, Option, Some, None}
+use Rattle.std.proofs.Common.{◌≡◌, ℕ, Bool, true, false, List, [], ◌∷◌, ◌++◌, length, take, refl, sym, ap, subst, ◌∙◌, append_assoc, Option, Some, None}
 use Rattle.std.proofs.Math.Seq.{take-append_seam}
 use Rattle.actx_text.specs.declared.units.Units.{Units}
 use Rattle.actx_tree.specs.declared.function.Flow.{Flow}
@@ -11,12 +11,14 @@ use Rattle.actx_scope.specs.declared.slot.Slot.{Slot}
 use Rattle.actx_scope.specs.declared.walk.Walk.{Walk}
 use Rattle.actx_scope.specs.declared.walk.Outer.{Outer}
 use Rattle.actx_scope.specs.Scopes.{Scope, slots_of, opened}
-use Rattle.actx_scope.specs.Contexts.{Context, behind, body_place, in_body, in_params, within}
-use Rattle.actx_scope.specs.Nodes.{Marks, Part, both, or_none, members_marks, has_some}
+use Rattle.actx_scope.specs.Contexts.{Context, behind, arrow_place, body_place, in_body, in_params, within}
+use Rattle.actx_scope.specs.Conditions.{first, when}
+use Rattle.actx_scope.specs.declared.early.EarlyKind.TheVariants as kind
+use Rattle.actx_scope.specs.Nodes.{Marks, Part, both, or_none, arrow_flow, arrow_node, members_marks, has_some}
 use Rattle.actx_scope.specs.Statements.{scoped}
 use Rattle.actx_scope.specs.Early.{Inside, spread}
-use Rattle.actx_scope.specs.Walks.{after, around, Adds, Binds, called, named, class_inner, has_any, closed}
-use Rattle.actx_scope.proofs.Adds.{adds-both, adds-as, adds-inside, binds-inside, around-same}
+use Rattle.actx_scope.specs.Walks.{with_first, after, around, AddsNode, Adds, Binds, Begins, Ends, called, named, class_inner, has_any, closed}
+use Rattle.actx_scope.proofs.Adds.{adds-behind_node, adds-both, adds-as, adds-inside, binds-inside, around-same}
 
 -- the names as they were
 pub back-again : (e d was names : List Units) (start : ℕ) → start ≡ length was → d ≡ was ++ names → e ≡ take start d → e ≡ was
@@ -97,3 +99,44 @@ class_adds i slots parent members p a b m d e o bs be bo eo t u es ee eout =
     adds-inside i f (class_inner slots parent members) roles.Evaluated roles.Evaluated p p a b d e bo v
     (es ∙ (ap (λ z. closed z d.scopes) eo ∙ (ap (λ z. closed (has_any slots) z) (v.scopes ∙ bs) ∙ closed-opened slots a.scopes)))
     (ee ∙ (v.earlier ∙ be)) eout (ap (λ z. f z) (sym (around-same k b roles.Evaluated p bs be)))
+
+-- ---- arrows with a value
+
+-- `b` is behind the parameters, `e` outside
+pub arrow_adds : (i : Inside) (params : Part) (is_async : Bool) (body : Marks) (r : Role) (p : Place) (a b e : Walk) (o : Outer) → Begins i params (arrow_place p) a b → o ≡ record { earlier = a.earlier; opened = true }
+    → Ends i params.names body (body_place (arrow_flow is_async) (arrow_place p)) o b e → Adds i (arrow_node is_async params body) r p a e
+arrow_adds i params is_async body r p a b e o s eo t =
+    let errors = when (params.repeats []) kind.Redeclared in
+    let n : Walk = record { scopes = a.scopes; earlier = a.earlier; out = with_first a.out (first errors) [] } in
+    let m : Walk = record { scopes = slots_of false params.names ∷ a.scopes; earlier = []; out = n.out } in
+    let d : Walk = record { scopes = b.scopes; earlier = b.earlier; out = e.out } in
+    let head : Adds i params.marks roles.Evaluated (arrow_place p) m b = record { scopes = s.scopes; earlier = s.earlier; out = s.out } in
+    let value : Adds i (named params.names body) roles.Evaluated (body_place (arrow_flow is_async) (arrow_place p)) b d = record { scopes = refl; earlier = refl; out = t.out } in
+    let left : e ≡ record { scopes = closed o.opened d.scopes; earlier = o.earlier; out = d.out } = ap (λ z. record { scopes = z; earlier = e.earlier; out = e.out }) t.scopes ∙ ap (λ z. record { scopes = closed o.opened b.scopes; earlier = z; out = e.out }) t.earlier in
+    adds-behind_node i errors [] (called [] params (arrow_place p) (arrow_flow is_async) body) (arrow_node is_async params body) r roles.Evaluated p (arrow_place p) a n e (record { scopes = refl; earlier = refl; out = refl })
+    (called_adds i [] params (arrow_place p) (arrow_flow is_async) body (slots_of false params.names) n m b d e o refl refl eo head value left) refl
+
+-- the parameters of an arrow: `b` is behind its node, `m` in their scope, `d` behind them
+pub begins : (i : Inside) (params : Part) (p : Place) (repeats : Bool) (slots : Scope) (a b m d : Walk) → repeats ≡ params.repeats [] → AddsNode (first (when repeats kind.Redeclared)) [] a b → slots ≡ [] ++ slots_of false params.names
+    → m ≡ record { scopes = slots ∷ b.scopes; earlier = []; out = b.out } → Adds i params.marks roles.Evaluated p m d → Begins i params p a d
+begins i params p repeats slots a b m d er n es em t =
+    let k : Walk = record { scopes = slots_of false params.names ∷ a.scopes; earlier = []; out = with_first a.out (first (when (params.repeats []) kind.Redeclared)) [] } in
+    let to_scopes : m ≡ record { scopes = slots_of false params.names ∷ a.scopes; earlier = []; out = b.out } = em ∙ (ap (λ z. record { scopes = z ∷ b.scopes; earlier = []; out = b.out }) es ∙ ap (λ z. record { scopes = slots_of false params.names ∷ z; earlier = []; out = b.out }) n.scopes) in
+    let same : m ≡ k = to_scopes ∙ (ap (λ z. record { scopes = slots_of false params.names ∷ a.scopes; earlier = []; out = z }) n.out
+        ∙ ap (λ z. record { scopes = slots_of false params.names ∷ a.scopes; earlier = []; out = with_first a.out (first (when z kind.Redeclared)) [] }) er) in
+    let u : Adds i params.marks roles.Evaluated p k d = subst (λ z. Adds i params.marks roles.Evaluated p z d) same t in
+    record { scopes = u.scopes; earlier = u.earlier; out = u.out }
+
+-- the value: `b` is behind the names, `d` behind the value, `e` outside
+pub ends : (i : Inside) (names : List Units) (f : Marks) (p : Place) (o : Outer) (a b d e : Walk) → b.scopes ≡ a.scopes → b.out ≡ a.out → b.earlier ≡ a.earlier ++ names → Adds i f roles.Evaluated p b d
+    → e ≡ record { scopes = closed o.opened d.scopes; earlier = o.earlier; out = d.out } → Ends i names f p o a e
+ends i names f p o a b d e bs bo be t ee =
+    let k : Walk = record { scopes = a.scopes; earlier = a.earlier ++ names; out = a.out } in
+    record {
+      scopes = ap (λ w. w.scopes) ee ∙ ap (λ z. closed o.opened z) (t.scopes ∙ bs);
+      earlier = ap (λ w. w.earlier) ee;
+      out = ap (λ w. w.out) ee ∙ (t.out ∙ (ap (λ z. after z (spread i (f (around b roles.Evaluated p)))) bo ∙ ap (λ z. after a.out (spread i (f z))) (around-same k b roles.Evaluated p bs be)));
+    }
+
+pub outer_then : (o : Outer) (e was : List Units) → o ≡ record { earlier = e; opened = true } → e ≡ was → o ≡ record { earlier = was; opened = true }
+outer_then o e was h k = subst (λ z. o ≡ record { earlier = z; opened = true }) k h

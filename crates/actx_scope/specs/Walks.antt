@@ -8,11 +8,13 @@ use Rattle.actx_scope.specs.declared.place.Place.{Place}
 use Rattle.actx_scope.specs.declared.place.Role.{Role}
 use Rattle.actx_scope.specs.declared.findings.Findings.{Findings}
 use Rattle.actx_scope.specs.declared.walk.Walk.{Walk}
+use Rattle.actx_scope.specs.declared.walk.Outer.{Outer}
+use Rattle.actx_scope.specs.declared.early.EarlyKind.TheVariants as kind
 use Rattle.actx_tree.specs.declared.function.Flow.{Flow}
 use Rattle.actx_scope.specs.declared.place.Role.TheVariants as roles
-use Rattle.actx_scope.specs.Scopes.{Scope, opened}
+use Rattle.actx_scope.specs.Scopes.{Scope, slots_of, opened}
 use Rattle.actx_scope.specs.Contexts.{Context, behind, in_params, in_body}
-use Rattle.actx_scope.specs.Conditions.{first}
+use Rattle.actx_scope.specs.Conditions.{first, when}
 use Rattle.actx_scope.specs.Nodes.{Marks, Part, both, or_none, members_marks, has_some}
 use Rattle.actx_tree.specs.declared.expr.Expr.{Expr}
 use Rattle.actx_tree.specs.declared.stmt.ForInit.{ForInit}
@@ -93,6 +95,18 @@ named names f c = f (behind names c)
 -- what a class extends and its members, in a scope of these slots
 abbrev pub class_inner : Scope → Option Part → List Part → Marks
 class_inner slots parent members c = let d = record c { scopes = opened slots c.scopes; role = roles.Evaluated } in or_none parent d ++ members_marks members (has_some parent) false d
+
+-- A node was added and a scope of parameters entered, which were added too.
+pub record Begins (inside : Inside) (params : Part) (p : Place) (old new : Walk) : Type 0 where
+  pub scopes : new.scopes ≡ slots_of false params.names ∷ old.scopes
+  pub earlier : new.earlier ≡ []
+  pub out : new.out ≡ after (with_first old.out (first (when (params.repeats []) kind.Redeclared)) []) (spread inside (params.marks (in_params [] params.names p (around old roles.Evaluated p))))
+
+-- A part was added behind these names, and a scope was left.
+pub record Ends (inside : Inside) (names : List Units) (f : Marks) (p : Place) (outer : Outer) (old new : Walk) : Type 0 where
+  pub scopes : new.scopes ≡ closed outer.opened old.scopes
+  pub earlier : new.earlier ≡ outer.earlier
+  pub out : new.out ≡ with_part inside (named names f) roles.Evaluated p old
 
 -- ---- statements
 

@@ -7,7 +7,7 @@ ghost use Rattle.actx_scope.specs.declared.place.Role.TheVariants as roles;
 ghost use Rattle.std.specs.Prelude.{◌≡◌, map, OnOk};
 
 use crate::bodies::Bodies;
-use crate::conditions::{has_bad_key, is_member, unary_error, when};
+use crate::conditions::{arrow_flow_of, has_bad_key, is_member, unary_error, when};
 use crate::early::EarlyKind;
 use crate::place::{Owner, Place, Role};
 use crate::walk::{Inner, Walk};
@@ -71,8 +71,13 @@ impl<F: Fn(Bodies<'_>, Unread, Place, &mut Walk) -> Result<(), AllocError>> Inne
                 walk.add(None, None)?;
                 self.of_expr(x.get(), Role::Evaluated, place, walk)?;
                 self.of_suffixes(suffixes.as_slice(), place, walk)?;
-                self.of_new_arguments(arguments, place, walk)?;
-                Ok(())
+                match arguments {
+                    Some(arguments) => {
+                        self.of_arguments(arguments.as_slice(), place, walk)?;
+                        Ok(())
+                    }
+                    None => Ok(()),
+                }
             }
             Expr::Left(x, suffixes) => {
                 walk.add(None, None)?;
@@ -119,7 +124,12 @@ impl<F: Fn(Bodies<'_>, Unread, Place, &mut Walk) -> Result<(), AllocError>> Inne
                 self.of_optional(x, place, walk)?;
                 Ok(())
             }
-            Expr::Arrow(is_async, params, x) => self.of_arrow(*is_async, params, x.get(), place, walk),
+            Expr::Arrow(is_async, params, x) => {
+                let outer = self.of_arrow_head(params, place.in_arrow(), walk)?;
+                let inner = place.in_arrow().in_body(arrow_flow_of(*is_async));
+                self.of_arrow_value(x.get(), params, outer, inner, walk)?;
+                Ok(())
+            }
             Expr::ArrowBlock(is_async, params, body) => {
                 self.of_arrow_block(*is_async, params, *body, place, walk)
             }
@@ -145,23 +155,6 @@ impl<F: Fn(Bodies<'_>, Unread, Place, &mut Walk) -> Result<(), AllocError>> Inne
     {
         match part {
             Some(x) => self.of_expr(x.get(), Role::Evaluated, place, walk),
-            None => Ok(()),
-        }
-    }
-
-    /// The arguments of a `new` that may be left out.
-    #[cycle(walk)]
-    fn of_new_arguments(
-        &self,
-        arguments: &Option<Items<Argument>>,
-        place: Place,
-        walk: &mut Walk,
-    ) -> Result<(), AllocError>
-        requires holds { Holds self.now.bodies (F.pre self.now.body) (F.post self.now.body) }
-        ensures { OnOk result (Adds (inside_of self.now.bodies) (nodes.or_none_all (nodes.mapped (map nodes.argument_part) arguments.now)) roles.Evaluated place walk.old walk.new) }
-    {
-        match arguments {
-            Some(arguments) => self.of_arguments(arguments.as_slice(), place, walk),
             None => Ok(()),
         }
     }

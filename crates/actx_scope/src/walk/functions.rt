@@ -2,9 +2,9 @@
 
 ghost use Rattle.actx_scope.specs.Holds.{Holds, inside_of};
 ghost use Rattle.actx_scope.specs.Nodes as nodes;
-ghost use Rattle.actx_scope.specs.Walks.{Adds, called, named, class_inner};
+ghost use Rattle.actx_scope.specs.Walks.{Adds, Begins, Ends, called, named, class_inner};
 ghost use Rattle.actx_scope.specs.declared.place.Role.TheVariants as roles;
-ghost use Rattle.std.specs.Prelude.{◌≡◌, map, false, [], OnOk};
+ghost use Rattle.std.specs.Prelude.{◌≡◌, map, true, false, OnOk, IfOk};
 ghost use Rattle.actx_tree.specs.declared.function.Class.{out-Class};
 
 use crate::bodies::Bodies;
@@ -17,7 +17,7 @@ use crate::early::EarlyKind;
 use crate::place::{Owner, Place, Role};
 use crate::repeats::{is_redeclared, params_repeat, pass_params};
 use crate::slot::Slot;
-use crate::walk::{Inner, Walk};
+use crate::walk::{Inner, Outer, Walk};
 use actx_tree::{Class, Expr, Flow, Function, Member, Method, Params, Unread};
 use sqlite_items::Items;
 use std::alloc::AllocError;
@@ -64,63 +64,43 @@ impl<F: Fn(Bodies<'_>, Unread, Place, &mut Walk) -> Result<(), AllocError>> Inne
         Ok(())
     }
 
-    /// The parameters of an arrow and its value.
+    /// An arrow up to its value, with its parameters at this place; what is to be put back behind it.
     #[cycle(walk)]
-    fn of_arrow_parts(
+    pub fn of_arrow_head(
         &self,
         params: &Params,
-        flow: Flow,
-        x: &Expr,
         place: Place,
         walk: &mut Walk,
-    ) -> Result<(), AllocError>
+    ) -> Result<Outer, AllocError>
         requires holds { Holds self.now.bodies (F.pre self.now.body) (F.post self.now.body) }
-        ensures { OnOk result (Adds (inside_of self.now.bodies) (called [] (nodes.params_part params.now) place flow (nodes.expr_part x.now).marks) roles.Evaluated place walk.old walk.new) }
+        ensures begins { OnOk result (Begins (inside_of self.now.bodies) (nodes.params_part params.now) place walk.old walk.new) }
+        ensures outer { IfOk result (λ o. o ≡ record { earlier = walk.old.earlier; opened = true }) }
     {
+        let repeats = params_repeat(self.bodies.alloc, params)?;
+        walk.add(when(repeats, EarlyKind::Redeclared), None)?;
         let mut slots = Items::new(self.bodies.alloc);
         add_params(self.bodies.alloc, params, &mut slots)?;
         let outer = walk.enter_params(self.bodies.alloc, slots)?;
         self.of_params(params, place, walk)?;
-        self.of_value_behind(params, x, place.in_body(flow), walk)?;
-        walk.leave(outer);
-        Ok(())
+        Ok(outer)
     }
 
-    /// The value of an arrow, behind the names of its parameters.
+    /// The value of an arrow behind its parameters, and out of their scope.
     #[cycle(walk)]
-    fn of_value_behind(
+    pub fn of_arrow_value(
         &self,
-        params: &Params,
         x: &Expr,
+        params: &Params,
+        outer: Outer,
         place: Place,
         walk: &mut Walk,
     ) -> Result<(), AllocError>
         requires holds { Holds self.now.bodies (F.pre self.now.body) (F.post self.now.body) }
-        ensures { OnOk result (Adds (inside_of self.now.bodies) (named (nodes.params_part params.now).names (nodes.expr_part x.now).marks) roles.Evaluated place walk.old walk.new) }
+        ensures { OnOk result (Ends (inside_of self.now.bodies) (nodes.params_part params.now).names (nodes.expr_part x.now).marks place outer walk.old walk.new) }
     {
-        let start = walk.earlier.len();
         pass_params(self.bodies.alloc, params, &mut walk.earlier)?;
         self.of_expr(x, Role::Evaluated, place, walk)?;
-        walk.earlier.back_to(start);
-        Ok(())
-    }
-
-    /// An arrow whose body is an expression.
-    #[cycle(walk)]
-    pub fn of_arrow(
-        &self,
-        is_async: bool,
-        params: &Params,
-        x: &Expr,
-        place: Place,
-        walk: &mut Walk,
-    ) -> Result<(), AllocError>
-        requires holds { Holds self.now.bodies (F.pre self.now.body) (F.post self.now.body) }
-        ensures { OnOk result (Adds (inside_of self.now.bodies) (nodes.arrow_node is_async (nodes.params_part params.now) (nodes.expr_part x.now).marks) roles.Evaluated place walk.old walk.new) }
-    {
-        let repeats = params_repeat(self.bodies.alloc, params)?;
-        walk.add(when(repeats, EarlyKind::Redeclared), None)?;
-        self.of_arrow_parts(params, arrow_flow_of(is_async), x, place.in_arrow(), walk)?;
+        walk.leave(outer);
         Ok(())
     }
 

@@ -105,7 +105,7 @@ impl<F: Fn(Bodies<'_>, Unread, Place, &mut Walk) -> Result<(), AllocError>> Inne
                 walk.add(None, None)?;
                 self.of_for_target(*is_const, target, place, walk)?;
                 self.of_expr(x, Role::Evaluated, place, walk)?;
-                self.of_for_body(*is_const, target, body.get(), place, walk)?;
+                self.of_for_body(body.get(), *is_const, target, place, walk)?;
                 Ok(())
             }
             Stmt::Return(x) => {
@@ -130,8 +130,13 @@ impl<F: Fn(Bodies<'_>, Unread, Place, &mut Walk) -> Result<(), AllocError>> Inne
                 walk.add(None, None)?;
                 self.of_block(items.as_slice(), place, walk)?;
                 self.of_handler(handler, place, walk)?;
-                self.of_last(last, place, walk)?;
-                Ok(())
+                match last {
+                    Some(last) => {
+                        self.of_block(last.as_slice(), place, walk)?;
+                        Ok(())
+                    }
+                    None => Ok(()),
+                }
             }
             Stmt::Expr(x) => {
                 walk.add(None, None)?;
@@ -204,9 +209,9 @@ impl<F: Fn(Bodies<'_>, Unread, Place, &mut Walk) -> Result<(), AllocError>> Inne
     #[cycle(steps)]
     fn of_for_body(
         &self,
+        body: &Stmt,
         is_const: bool,
         target: &Target,
-        body: &Stmt,
         place: Place,
         walk: &mut Walk,
     ) -> Result<(), AllocError>
@@ -254,23 +259,6 @@ impl<F: Fn(Bodies<'_>, Unread, Place, &mut Walk) -> Result<(), AllocError>> Inne
         self.of_block(clause.block.as_slice(), place, walk)?;
         walk.leave(outer);
         Ok(())
-    }
-
-    /// The block after `finally`, if there is one.
-    #[cycle(steps)]
-    fn of_last(
-        &self,
-        last: &Option<Items<Stmt>>,
-        place: Place,
-        walk: &mut Walk,
-    ) -> Result<(), AllocError>
-        requires holds { Holds self.now.bodies (F.pre self.now.body) (F.post self.now.body) }
-        ensures { OnOk result (Adds (inside_of self.now.bodies) (statements.or_none statements.block (nodes.mapped (map statements.statement) last.now)) roles.Evaluated place walk.old walk.new) }
-    {
-        match last {
-            Some(items) => self.of_block(items.as_slice(), place, walk),
-            None => Ok(()),
-        }
     }
 
     /// The statements of a body, behind the names of the parameters.

@@ -57,9 +57,6 @@ of_stmt-returns-in_ok-add-in-Break g t c = rw (c.in-Break.is, stmt.statement-Bre
 pub of_stmt-returns-in_ok-add-in-Continue : goal.of_stmt-returns-in_ok-add-in-Continue
 of_stmt-returns-in_ok-add-in-Continue g t c = rw (c.in-Continue.is, stmt.statement-Continue) (adds-node _ (λ p. condition.when (condition.is_bad_break p) kind.BadBreak) nodes.none _ _ _ _ _ (rw c.when-in-Continue.ensures at c.in_ok-add-in-Continue.ensures) (adds-none _ _ _ _))
 
-pub of_stmt-returns-in_ok-of_last-in-Try : goal.of_stmt-returns-in_ok-of_last-in-Try
-of_stmt-returns-in_ok-of_last-in-Try g t c = rw (c.in-Try.is, stmt.statement-Try) (adds-node _ nodes.sound (both (statements.block (map statements.statement c.in-Try.items)) (both (statements.or_none statements.marks_of (nodes.mapped statements.handler_of c.in-Try.handler)) (statements.or_none statements.block (nodes.mapped (map statements.statement) c.in-Try.last)))) _ _ _ _ _ c.in_ok-add-in-Try.ensures (adds-both _ (statements.block (map statements.statement c.in-Try.items)) (both (statements.or_none statements.marks_of (nodes.mapped statements.handler_of c.in-Try.handler)) (statements.or_none statements.block (nodes.mapped (map statements.statement) c.in-Try.last))) _ _ _ _ _ (rw c.as_slice-in-Try.ensures at c.in_ok-of_block-in-Try.ensures) (adds-both _ (statements.or_none statements.marks_of (nodes.mapped statements.handler_of c.in-Try.handler)) (statements.or_none statements.block (nodes.mapped (map statements.statement) c.in-Try.last)) _ _ _ _ _ c.in_ok-of_handler-in-Try.ensures c.in_ok-of_last-in-Try.ensures)))
-
 pub of_stmt-returns-in_ok-of_expr-in-Expr : goal.of_stmt-returns-in_ok-of_expr-in-Expr
 of_stmt-returns-in_ok-of_expr-in-Expr g t c = rw (c.in-Expr.is, stmt.statement-Expr) (adds-node _ nodes.sound (statements.expr_marks c.in-Expr.x) _ _ _ _ _ c.in_ok-add-in-Expr.ensures c.in_ok-of_expr-in-Expr.ensures)
 
@@ -74,12 +71,6 @@ of_handler-returns-in-Some g t c = rw c.in-Some.is c.of_catch.ensures
 
 pub of_handler-returns-in-None : goal.of_handler-returns-in-None
 of_handler-returns-in-None g t c = rw c.in-None.is (adds-none _ _ _ _)
-
-pub of_last-returns-in-Some : goal.of_last-returns-in-Some
-of_last-returns-in-Some g t c = rw c.in-Some.is (rw c.as_slice.ensures at c.of_block.ensures)
-
-pub of_last-returns-in-None : goal.of_last-returns-in-None
-of_last-returns-in-None g t c = rw c.in-None.is (adds-none _ _ _ _)
 
 pub of_block-returns : goal.of_block-returns
 of_block-returns g t c = scoped_binds _ (statements.in_order (map statements.statement c.args.items.now)) (slot_names (statements.all_slots (map statements.statement c.args.items.now))) (statements.all_slots (map statements.statement c.args.items.now)) _ _ _ _ _ _ _ _ c.in_ok-slots.ensures c.in_ok-outer.ensures.inside c.in_ok-outer.ensures.outer c.in_ok-of_items.ensures c.leave.ensures
@@ -105,11 +96,8 @@ of_items-loop-item-preserved g t c = let h : c.loop-item.item-index < length c.a
 pub of_items-returns : goal.of_items-returns
 of_items-returns g t c = let h : length c.args.items.now ≤ c.loop-item.item-index = omega (arith, c.loop-item-test.false) in bound-nothing _ _ _ _ _ _ _ _ _ c.loop-item.invariant (order-done c.args.items.now c.loop-item.item-index _ h) (declared-done c.args.items.now c.loop-item.item-index h)
 
-pub of_for_body-of_stmt-requires : goal.of_for_body-of_stmt-requires
-of_for_body-of_stmt-requires g t c = ?
+pub of_stmt-returns-in_ok-of_block-in-Some : goal.of_stmt-returns-in_ok-of_block-in-Some
+of_stmt-returns-in_ok-of_block-in-Some g t c = rw (c.in-Try.is, c.in-Some.is, stmt.statement-Try) (adds-node _ nodes.sound (both (statements.block (map statements.statement c.in-Try.items)) (both (statements.or_none statements.marks_of (nodes.mapped statements.handler_of c.in-Try.handler)) (statements.or_none statements.block (Some (map statements.statement c.in-Some.last))))) _ _ _ _ _ c.in_ok-add-in-Try.ensures (adds-both _ (statements.block (map statements.statement c.in-Try.items)) (both (statements.or_none statements.marks_of (nodes.mapped statements.handler_of c.in-Try.handler)) (statements.or_none statements.block (Some (map statements.statement c.in-Some.last)))) _ _ _ _ _ (rw c.as_slice-in-Try.ensures at c.in_ok-of_block-in-Try.ensures) (adds-both _ (statements.or_none statements.marks_of (nodes.mapped statements.handler_of c.in-Try.handler)) (statements.or_none statements.block (Some (map statements.statement c.in-Some.last))) _ _ _ _ _ c.in_ok-of_handler-in-Try.ensures (rw c.as_slice-in-Some.ensures at c.in_ok-of_block-in-Some.ensures))))
 
-pub of_last-of_block-requires : goal.of_last-of_block-requires
-of_last-of_block-requires g t c = ?
-
-pub of_stmt-of_for_body-requires : goal.of_stmt-of_for_body-requires
-of_stmt-of_for_body-requires g t c = ?
+pub of_stmt-returns-in-None : goal.of_stmt-returns-in-None
+of_stmt-returns-in-None g t c = rw (c.in-Try.is, c.in-None.is, stmt.statement-Try) (adds-node _ nodes.sound (both (statements.block (map statements.statement c.in-Try.items)) (both (statements.or_none statements.marks_of (nodes.mapped statements.handler_of c.in-Try.handler)) (statements.or_none statements.block None))) _ _ _ _ _ c.in_ok-add-in-Try.ensures (adds-both _ (statements.block (map statements.statement c.in-Try.items)) (both (statements.or_none statements.marks_of (nodes.mapped statements.handler_of c.in-Try.handler)) (statements.or_none statements.block None)) _ _ _ _ _ (rw c.as_slice-in-Try.ensures at c.in_ok-of_block-in-Try.ensures) (adds-both _ (statements.or_none statements.marks_of (nodes.mapped statements.handler_of c.in-Try.handler)) (statements.or_none statements.block None) _ _ _ _ _ c.in_ok-of_handler-in-Try.ensures (adds-none _ _ _ _))))

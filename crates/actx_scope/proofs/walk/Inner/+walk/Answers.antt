@@ -15,7 +15,7 @@ use Rattle.actx_scope.specs.Walks.{called, class_inner}
 use Rattle.actx_scope.proofs.PartEquations as part
 use Rattle.actx_scope.proofs.Names.{names-left, names-done}
 use Rattle.actx_scope.proofs.Adds.{adds-none, adds-both, adds-behind_node, adds-node, leaf_ok, any_role_ok, adds-as, adds-role, adds-owner, owes-all, owes-less, owes-nothing, bound-all, bound-less, bound-nothing}
-use Rattle.actx_scope.proofs.Insides.{behind_adds, called_adds, class_adds}
+use Rattle.actx_scope.proofs.Insides.{outer_then, arrow_adds, begins, ends, called_adds, class_adds}
 use Rattle.actx_scope.proofs.Patterns.{all-left, all-done, binding-left, binding-done, members-left, members-done, has_some-mapped, pattern_adds, params_adds}
 use Rattle.actx_scope.proofs.walk.Inner.+walk.Goals as goal
 
@@ -61,9 +61,6 @@ of_expr-returns-in-Function g t c = rw (c.in-Function.is, part.expr_part-Functio
 pub of_expr-returns-in-Class : goal.of_expr-returns-in-Class
 of_expr-returns-in-Class g t c = rw (c.in-Class.is, part.expr_part-Class) c.of_class.ensures
 
-pub of_expr-returns-in_ok-of_new_arguments-in-New : goal.of_expr-returns-in_ok-of_new_arguments-in-New
-of_expr-returns-in_ok-of_new_arguments-in-New g t c = rw (c.in-New.is, part.expr_part-New) (adds-node _ nodes.sound (both ((nodes.expr_part c.in-New.x).marks) (both (nodes.all (map nodes.suffix_part c.in-New.suffixes)) (nodes.or_none_all (nodes.mapped (map nodes.argument_part) c.in-New.arguments)))) _ _ _ _ _ c.in_ok-add-in-New.ensures (adds-both _ ((nodes.expr_part c.in-New.x).marks) (both (nodes.all (map nodes.suffix_part c.in-New.suffixes)) (nodes.or_none_all (nodes.mapped (map nodes.argument_part) c.in-New.arguments))) _ _ _ _ _ (rw c.get-in-New.ensures at c.in_ok-of_expr-in-New.ensures) (adds-both _ (nodes.all (map nodes.suffix_part c.in-New.suffixes)) (nodes.or_none_all (nodes.mapped (map nodes.argument_part) c.in-New.arguments)) _ _ _ _ _ (rw c.as_slice-in-New.ensures at c.in_ok-of_suffixes-in-New.ensures) c.in_ok-of_new_arguments-in-New.ensures)))
-
 pub of_expr-returns-in_ok-of_suffixes-in-Left : goal.of_expr-returns-in_ok-of_suffixes-in-Left
 of_expr-returns-in_ok-of_suffixes-in-Left g t c = rw (c.in-Left.is, part.expr_part-Left) (adds-node _ nodes.sound (both ((nodes.expr_part c.in-Left.x).marks) (nodes.all (map nodes.suffix_part c.in-Left.suffixes))) _ _ _ _ _ c.in_ok-add-in-Left.ensures (adds-both _ ((nodes.expr_part c.in-Left.x).marks) (nodes.all (map nodes.suffix_part c.in-Left.suffixes)) _ _ _ _ _ (rw c.get-in-Left.ensures at c.in_ok-of_expr-in-Left.ensures) (rw c.as_slice-in-Left.ensures at c.in_ok-of_suffixes-in-Left.ensures)))
 
@@ -88,9 +85,6 @@ of_expr-returns-in_ok-of_expr-in-Assign-2 g t c = rw (c.in-Assign.is, part.expr_
 pub of_expr-returns-in_ok-of_optional-in-Yield : goal.of_expr-returns-in_ok-of_optional-in-Yield
 of_expr-returns-in_ok-of_optional-in-Yield g t c = rw (c.in-Yield.is, part.expr_part-Yield) (adds-node _ (λ p. condition.when (condition.is_bad_yield p) kind.BadYield) (nodes.or_none (nodes.mapped nodes.expr_part c.in-Yield.x)) _ _ _ _ _ (rw c.when-in-Yield.ensures at c.in_ok-add-in-Yield.ensures) c.in_ok-of_optional-in-Yield.ensures)
 
-pub of_expr-returns-in-Arrow : goal.of_expr-returns-in-Arrow
-of_expr-returns-in-Arrow g t c = rw (c.in-Arrow.is, part.expr_part-Arrow) (any_role_ok _ _ _ _ _ _ _ _ (rw c.get-in-Arrow.ensures at c.of_arrow.ensures) refl)
-
 pub of_expr-returns-in-ArrowBlock : goal.of_expr-returns-in-ArrowBlock
 of_expr-returns-in-ArrowBlock g t c = rw (c.in-ArrowBlock.is, part.expr_part-ArrowBlock) (any_role_ok _ _ _ _ _ _ _ _ c.of_arrow_block.ensures refl)
 
@@ -102,12 +96,6 @@ of_optional-returns-in-Some g t c = rw c.in-Some.is (rw c.get.ensures at c.of_ex
 
 pub of_optional-returns-in-None : goal.of_optional-returns-in-None
 of_optional-returns-in-None g t c = rw c.in-None.is (adds-none _ _ _ _)
-
-pub of_new_arguments-returns-in-Some : goal.of_new_arguments-returns-in-Some
-of_new_arguments-returns-in-Some g t c = rw c.in-Some.is (rw c.as_slice.ensures at c.of_arguments.ensures)
-
-pub of_new_arguments-returns-in-None : goal.of_new_arguments-returns-in-None
-of_new_arguments-returns-in-None g t c = rw c.in-None.is (adds-none _ _ _ _)
 
 pub of_rest-returns-in-Some : goal.of_rest-returns-in-Some
 of_rest-returns-in-Some g t c = rw c.in-Some.is (rw c.get.ensures at c.of_target.ensures)
@@ -217,15 +205,6 @@ of_suffix-returns-in-Call g t c = rw (c.in-Call.is, part.suffix_part-Call) (rw c
 pub of_called-returns : goal.of_called-returns
 of_called-returns g t c = called_adds _ c.args.hidden (nodes.params_part c.args.params.now) c.args.place c.args.flow (nodes.body_marks c.args.body) _ _ _ _ _ _ _ c.in_ok-add_params.ensures c.in_ok-outer.ensures.inside c.in_ok-outer.ensures.outer c.in_ok-of_params.ensures (rw c.in_body.ensures at c.in_ok-of_body_behind.ensures) c.leave.ensures
 
-pub of_arrow_parts-returns : goal.of_arrow_parts-returns
-of_arrow_parts-returns g t c = called_adds _ [] (nodes.params_part c.args.params.now) c.args.place c.args.flow ((nodes.expr_part c.args.x.now).marks) _ _ _ _ _ _ _ (rw c.new-slots.ensures at c.in_ok-add_params.ensures) c.in_ok-outer.ensures.inside c.in_ok-outer.ensures.outer c.in_ok-of_params.ensures (rw c.in_body.ensures at c.in_ok-of_value_behind.ensures) c.leave.ensures
-
-pub of_value_behind-returns : goal.of_value_behind-returns
-of_value_behind-returns g t c = behind_adds _ ((nodes.expr_part c.args.x.now).marks) (nodes.params_part c.args.params.now).names _ _ _ _ _ _ c.len-start.result c.len-start.ensures refl refl c.in_ok-pass_params.ensures c.in_ok-of_expr.ensures refl refl c.back_to.ensures
-
-pub of_arrow-returns : goal.of_arrow-returns
-of_arrow-returns g t c = adds-behind_node _ (condition.when ((nodes.params_part c.args.params.now).repeats []) kind.Redeclared) [] (called [] (nodes.params_part c.args.params.now) (arrow_place c.args.place) (nodes.arrow_flow c.args.is_async) ((nodes.expr_part c.args.x.now).marks)) (nodes.arrow_node c.args.is_async (nodes.params_part c.args.params.now) ((nodes.expr_part c.args.x.now).marks)) _ roles.Evaluated _ (arrow_place c.args.place) _ _ _ (rw (c.when.ensures, c.in_ok-repeats.ensures) at c.in_ok-add.ensures) (rw (c.in_arrow.ensures, c.arrow_flow_of.ensures) at c.in_ok-of_arrow_parts.ensures) refl
-
 pub of_arrow_block-returns : goal.of_arrow_block-returns
 of_arrow_block-returns g t c = adds-behind_node _ (condition.when ((nodes.params_part c.args.params.now).repeats []) kind.Redeclared) [] (called [] (nodes.params_part c.args.params.now) (arrow_place c.args.place) (nodes.arrow_flow c.args.is_async) (nodes.body_marks c.args.body)) (nodes.arrow_node c.args.is_async (nodes.params_part c.args.params.now) (nodes.body_marks c.args.body)) _ roles.Evaluated _ (arrow_place c.args.place) _ _ _ (rw (c.when.ensures, c.in_ok-repeats.ensures) at c.in_ok-add.ensures) (rw (c.in_arrow.ensures, c.arrow_flow_of.ensures, c.new-hidden.ensures) at c.in_ok-of_called.ensures) refl
 
@@ -301,8 +280,21 @@ of_elem-returns g t c = rw (part.elem_part-fields) (adds-both _ _ _ _ _ _ _ _ c.
 pub of_params-returns : goal.of_params-returns
 of_params-returns g t c = rw (part.params_part-fields) (params_adds _ (map nodes.elem_part _) (nodes.mapped nodes.target_part _) _ _ _ _ _ c.len-start.result c.len-start.ensures (rw c.as_slice.ensures at c.in_ok-of_elems.ensures) c.in_ok-of_rest.ensures refl refl c.back_to.ensures)
 
-pub of_new_arguments-of_arguments-requires : goal.of_new_arguments-of_arguments-requires
-of_new_arguments-of_arguments-requires g t c = ?
+pub of_arrow_head-returns-clause-begins : goal.of_arrow_head-returns-clause-begins
+of_arrow_head-returns-clause-begins g t c = begins _ (nodes.params_part c.args.params.now) c.args.place c.in_ok-repeats.repeats _ _ _ _ _ c.in_ok-repeats.ensures (rw c.when.ensures at c.in_ok-add.ensures) (rw c.new-slots.ensures at c.in_ok-add_params.ensures) c.in_ok-outer.ensures.inside c.in_ok-of_params.ensures
 
-pub of_value_behind-of_expr-requires : goal.of_value_behind-of_expr-requires
-of_value_behind-of_expr-requires g t c = ?
+pub of_arrow_head-returns-clause-outer : goal.of_arrow_head-returns-clause-outer
+of_arrow_head-returns-clause-outer g t c = outer_then _ _ _ c.in_ok-outer.ensures.outer c.in_ok-add.ensures.earlier
+
+pub of_arrow_value-returns : goal.of_arrow_value-returns
+of_arrow_value-returns g t c = ends _ (nodes.params_part c.args.params.now).names ((nodes.expr_part c.args.x.now).marks) _ _ _ _ _ _ refl refl c.in_ok-pass_params.ensures c.in_ok-of_expr.ensures c.leave.ensures
+
+pub of_expr-returns-in_ok-of_arguments-in-Some : goal.of_expr-returns-in_ok-of_arguments-in-Some
+of_expr-returns-in_ok-of_arguments-in-Some g t c = rw (c.in-New.is, c.in-Some.is, part.expr_part-New) (adds-node _ nodes.sound (both ((nodes.expr_part c.in-New.x).marks) (both (nodes.all (map nodes.suffix_part c.in-New.suffixes)) (nodes.or_none_all (Some (map nodes.argument_part c.in-Some.arguments))))) _ _ _ _ _ c.in_ok-add-in-New.ensures (adds-both _ ((nodes.expr_part c.in-New.x).marks) (both (nodes.all (map nodes.suffix_part c.in-New.suffixes)) (nodes.or_none_all (Some (map nodes.argument_part c.in-Some.arguments)))) _ _ _ _ _ (rw c.get-in-New.ensures at c.in_ok-of_expr-in-New.ensures) (adds-both _ (nodes.all (map nodes.suffix_part c.in-New.suffixes)) (nodes.or_none_all (Some (map nodes.argument_part c.in-Some.arguments))) _ _ _ _ _ (rw c.as_slice-in-New.ensures at c.in_ok-of_suffixes-in-New.ensures) (rw c.as_slice-in-Some.ensures at c.in_ok-of_arguments-in-Some.ensures))))
+
+pub of_expr-returns-in-None : goal.of_expr-returns-in-None
+of_expr-returns-in-None g t c = rw (c.in-New.is, c.in-None.is, part.expr_part-New) (adds-node _ nodes.sound (both ((nodes.expr_part c.in-New.x).marks) (both (nodes.all (map nodes.suffix_part c.in-New.suffixes)) (nodes.or_none_all None))) _ _ _ _ _ c.in_ok-add-in-New.ensures (adds-both _ ((nodes.expr_part c.in-New.x).marks) (both (nodes.all (map nodes.suffix_part c.in-New.suffixes)) (nodes.or_none_all None)) _ _ _ _ _ (rw c.get-in-New.ensures at c.in_ok-of_expr-in-New.ensures) (adds-both _ (nodes.all (map nodes.suffix_part c.in-New.suffixes)) (nodes.or_none_all None) _ _ _ _ _ (rw c.as_slice-in-New.ensures at c.in_ok-of_suffixes-in-New.ensures) (adds-none _ _ _ _))))
+
+pub of_expr-returns-in_ok-of_arrow_value-in-Arrow : goal.of_expr-returns-in_ok-of_arrow_value-in-Arrow
+of_expr-returns-in_ok-of_arrow_value-in-Arrow g t c = rw (c.in-Arrow.is, part.expr_part-Arrow) (arrow_adds _ (nodes.params_part c.in-Arrow.params) c.in-Arrow.is_async ((nodes.expr_part c.in-Arrow.x).marks) _ _ _ _ _ c.in_ok-outer-in-Arrow.outer
+    (rw c.in_arrow.ensures at c.in_ok-outer-in-Arrow.ensures.begins) c.in_ok-outer-in-Arrow.ensures.outer (rw (c.in_body-inner.ensures, c.in_arrow-in-Arrow.ensures, c.arrow_flow_of.ensures, c.get-in-Arrow.ensures) at c.in_ok-of_arrow_value-in-Arrow.ensures))

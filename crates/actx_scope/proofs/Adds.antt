@@ -11,7 +11,7 @@ use Rattle.actx_scope.specs.declared.place.Role.{Role}
 use Rattle.actx_scope.specs.declared.place.Role.TheVariants as roles
 use Rattle.actx_scope.specs.declared.slot.Found.{Found}
 use Rattle.actx_scope.specs.declared.walk.Walk.{Walk}
-use Rattle.actx_scope.specs.Contexts.{Context, as_role, owned_by, owned_place, turn_place, behind}
+use Rattle.actx_scope.specs.Contexts.{Context, owned_place, turn_place, behind}
 use Rattle.actx_scope.specs.Statements.{looped}
 use Rattle.actx_scope.specs.declared.early.EarlyKind.TheVariants as kind
 use Rattle.actx_scope.specs.Scopes.{found}
@@ -157,15 +157,15 @@ bound-less i whole f rest left names bound more others r p start b d e t es eo e
     let c : Context = around b r p in
     let k : Context = behind bound c in
     let inside : around e r p ≡ k =
-        let at_scopes : around e r p ≡ record { scopes = b.scopes; earlier = e.earlier; role = r; place = p } = ap (λ z. record { scopes = z; earlier = e.earlier; role = r; place = p }) (es ∙ t.scopes) in
-        let at_earlier : record { scopes = b.scopes; earlier = e.earlier; role = r; place = p } ≡ k = ap (λ z. record { scopes = b.scopes; earlier = z; role = r; place = p }) (ee ∙ ap (λ z. z ++ bound) t.earlier) in
-        at_scopes ∙ at_earlier in
+    let at_scopes : around e r p ≡ record { scopes = b.scopes; earlier = e.earlier; role = r; place = p } = ap (λ z. record { scopes = z; earlier = e.earlier; role = r; place = p }) (es ∙ t.scopes) in
+    let at_earlier : record { scopes = b.scopes; earlier = e.earlier; role = r; place = p } ≡ k = ap (λ z. record { scopes = b.scopes; earlier = z; role = r; place = p }) (ee ∙ ap (λ z. z ++ bound) t.earlier) in
+    at_scopes ∙ at_earlier in
     record {
       scopes = es ∙ (t.scopes ∙ keeps.scopes);
       earlier = ap (λ z. z ++ others) (ee ∙ ap (λ z. z ++ bound) t.earlier) ∙ (append_assoc b.earlier bound others ∙ (ap (λ z. b.earlier ++ z) (sym hn) ∙ keeps.earlier));
       out = ap (λ z. after e.out (spread i (rest z))) inside
-        ∙ (ap (λ z. after z (spread i (rest k))) eo
-        ∙ (follow i b.out d.out (after d.out (spread i (rest k))) (f c) (rest k) t.out refl ∙ (ap (λ z. after b.out (spread i z)) (sym h) ∙ keeps.out)));
+          ∙ (ap (λ z. after z (spread i (rest k))) eo
+          ∙ (follow i b.out d.out (after d.out (spread i (rest k))) (f c) (rest k) t.out refl ∙ (ap (λ z. after b.out (spread i z)) (sym h) ∙ keeps.out)));
     }
 
 pub bound-nothing : (i : Inside) (whole left : Marks) (names others : List Units) (r : Role) (p : Place) (start now : Walk) → OwesBound i whole left names others r p start now
@@ -202,6 +202,6 @@ pub name_ok : {T E : Type 0} (i : Inside) (name : Units) (r : Role) (p : Place) 
 name_ok i name r p a b x error (Ok y) ex ee n =
     let errors : Option Found → List EarlyKind = λ z. when (is_not_declared z) kind.NotDeclared ++ when (is_const_assigned r z) kind.ConstAssigned in
     let m : AddsNode (first (errors (found a.scopes name))) (listed (found a.scopes name)) a b =
-        subst (λ z. AddsNode (first (errors z)) (listed z) a b) ex (subst (λ z. AddsNode z (listed x) a b) ee n) in
+    subst (λ z. AddsNode (first (errors z)) (listed z) a b) ex (subst (λ z. AddsNode z (listed x) a b) ee n) in
     adds-leaf i (errors (found a.scopes name)) (listed (found a.scopes name)) (name_node name) r p a b m refl
 name_ok i name r p a b x error (Err e) ex ee n = n

@@ -1,17 +1,16 @@
 -- Parts in scopes that are left again, and parts behind names: `a` is the walk before, `b` inside, `d` behind the part, `e` at
 -- the end.
-use Rattle.std.proofs.Common.{◌≡◌, ℕ, Bool, true, false, List, [], ◌∷◌, ◌++◌, length, take, refl, sym, ap, subst, ◌∙◌, append_assoc, Option, Some, None}
+use Rattle.std.proofs.Common.{◌≡◌, ℕ, Bool, true, false, List, [], ◌∷◌, ◌++◌, length, take, refl, sym, ap, subst, ◌∙◌, Option}
 use Rattle.std.proofs.Math.Seq.{take-append_seam}
 use Rattle.actx_text.specs.declared.units.Units.{Units}
 use Rattle.actx_tree.specs.declared.function.Flow.{Flow}
 use Rattle.actx_scope.specs.declared.place.Place.{Place}
 use Rattle.actx_scope.specs.declared.place.Role.{Role}
 use Rattle.actx_scope.specs.declared.place.Role.TheVariants as roles
-use Rattle.actx_scope.specs.declared.slot.Slot.{Slot}
 use Rattle.actx_scope.specs.declared.walk.Walk.{Walk}
 use Rattle.actx_scope.specs.declared.walk.Outer.{Outer}
 use Rattle.actx_scope.specs.Scopes.{Scope, slots_of, opened}
-use Rattle.actx_scope.specs.Contexts.{Context, behind, arrow_place, body_place, in_body, in_params, within}
+use Rattle.actx_scope.specs.Contexts.{arrow_place, body_place}
 use Rattle.actx_scope.specs.Conditions.{first, when}
 use Rattle.actx_scope.specs.declared.early.EarlyKind.TheVariants as kind
 use Rattle.actx_scope.specs.Nodes.{Marks, Part, both, or_none, arrow_flow, arrow_node, members_marks, has_some}
@@ -123,7 +122,7 @@ begins i params p repeats slots a b m d er n es em t =
     let k : Walk = record { scopes = slots_of false params.names ∷ a.scopes; earlier = []; out = with_first a.out (first (when (params.repeats []) kind.Redeclared)) [] } in
     let to_scopes : m ≡ record { scopes = slots_of false params.names ∷ a.scopes; earlier = []; out = b.out } = em ∙ (ap (λ z. record { scopes = z ∷ b.scopes; earlier = []; out = b.out }) es ∙ ap (λ z. record { scopes = slots_of false params.names ∷ z; earlier = []; out = b.out }) n.scopes) in
     let same : m ≡ k = to_scopes ∙ (ap (λ z. record { scopes = slots_of false params.names ∷ a.scopes; earlier = []; out = z }) n.out
-        ∙ ap (λ z. record { scopes = slots_of false params.names ∷ a.scopes; earlier = []; out = with_first a.out (first (when z kind.Redeclared)) [] }) er) in
+    ∙ ap (λ z. record { scopes = slots_of false params.names ∷ a.scopes; earlier = []; out = with_first a.out (first (when z kind.Redeclared)) [] }) er) in
     let u : Adds i params.marks roles.Evaluated p k d = subst (λ z. Adds i params.marks roles.Evaluated p z d) same t in
     record { scopes = u.scopes; earlier = u.earlier; out = u.out }
 

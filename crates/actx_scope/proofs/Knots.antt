@@ -1,5 +1,5 @@
 -- The bodies of functions in a list of bodies.
-use Rattle.std.proofs.Common.{◌≡◌, ℕ, suc, ◌+◌, ◌<◌, ◌≤◌, List, [], ◌∷◌, ◌++◌, length, map, refl, sym, ap, subst, ◌∙◌, Ok, Err, Option, Some, None, true, false, Bool, arith}
+use Rattle.std.proofs.Common.{◌≡◌, ℕ, ◌+◌, ◌<◌, List, [], ◌∷◌, length, map, refl, sym, ap, subst, ◌∙◌, Ok, Err, Option, Some, None, true, false, Bool, arith}
 use Rattle.std.specs.Prelude.{◌==◌, if◌then◌else◌, Result, OnOk}
 use Rattle.std.proofs.lemmas.List.{append-nil}
 use Rattle.actx_tree.specs.declared.function.Unread.{Unread}
@@ -12,7 +12,7 @@ use Rattle.actx_scope.specs.declared.walk.Walk.{Walk}
 use Rattle.actx_scope.specs.Contexts.{Context, file_place}
 use Rattle.actx_scope.specs.Nodes.{body_marks}
 use Rattle.actx_scope.specs.Statements as statements
-use Rattle.actx_scope.specs.Early.{Node, Inside, spread, nodes_in, token_count, tree_nodes}
+use Rattle.actx_scope.specs.Early.{Node, spread, nodes_in, token_count, tree_nodes}
 use Rattle.actx_scope.specs.Bodies.{body_of}
 use Rattle.actx_scope.specs.Walks.{after, around, with_part, nothing, Adds}
 
@@ -33,7 +33,7 @@ nodes_found count (b ∷ bs) range c = one_more (b.from + range.from == count) c
 
 fewer_here : (d : Bool) (count : ℕ) (a : BodyTree) (bs : List BodyTree) (range : Unread) (b : BodyTree) (rest : List BodyTree) → (body_of count bs range ≡ Some (b, rest) → length rest < length bs)
     → (if d then Some (a, bs) else body_of count bs range) ≡ Some (b, rest) → length rest < length (a ∷ bs)
-fewer_here true count a bs range b rest f e = let p : (a, bs) ≡ (b, rest) = cc in let h : bs ≡ rest = ap (λ (x : BodyTree × List BodyTree). x.1) p in rw (sym h) (omega arith)
+fewer_here true count a bs range b rest f e = let p : ◌≡◌ {A = BodyTree × List BodyTree} (a, bs) (b, rest) = cc in let h : bs ≡ rest = ap (λ (x : BodyTree × List BodyTree). x.1) p in rw (sym h) (omega arith)
 fewer_here false count a bs range b rest f e = let h = f e in omega (arith, h)
 
 pub fewer : (count : ℕ) (bs : List BodyTree) (range : Unread) (b : BodyTree) (rest : List BodyTree) → body_of count bs range ≡ Some (b, rest) → length rest < length bs
@@ -73,5 +73,5 @@ pub whole_tree : (tree : Tree) (count : ℕ) (bodies : List BodyTree) (items : L
 unfolding tree_nodes
 whole_tree tree count bodies items p a d ec eb ei ep ea t =
     let first : with_part (nodes_in count bodies) (statements.block (map statements.statement items)) roles.Evaluated p a ≡ with_part (nodes_in count tree.bodies) (statements.block (map statements.statement tree.items)) roles.Evaluated file_place (record { scopes = []; earlier = []; out = nothing }) =
-        rw (eb, ei, ep, ea) refl in
+    rw (eb, ei, ep, ea) refl in
     t.out ∙ (first ∙ ap (λ z. with_part (nodes_in z tree.bodies) (statements.block (map statements.statement tree.items)) roles.Evaluated file_place (record { scopes = []; earlier = []; out = nothing })) ec)

@@ -1,5 +1,5 @@
 -- Patterns, parameters and statements in a walk, and what is left of lists of parts.
-use Rattle.std.proofs.Common.{◌≡◌, ℕ, ◌+◌, ◌<◌, ◌≤◌, Bool, false, ◌||◌, List, [], ◌∷◌, ◌++◌, length, get_or, map, drop, take, refl, sym, ap, subst, ◌∙◌, append_assoc, Option, Some, None}
+use Rattle.std.proofs.Common.{◌≡◌, ℕ, ◌+◌, ◌<◌, ◌≤◌, Bool, ◌||◌, List, [], ◌∷◌, ◌++◌, length, get_or, map, drop, take, refl, sym, ap, subst, ◌∙◌, append_assoc, Option, Some, None}
 use Rattle.std.specs.Prelude.{is_some}
 use Rattle.std.proofs.lemmas.List.{append-nil}
 use Rattle.actx_text.specs.declared.units.Units.{Units}
@@ -12,9 +12,9 @@ use Rattle.actx_scope.specs.declared.place.Role.{Role}
 use Rattle.actx_scope.specs.declared.place.Role.TheVariants as roles
 use Rattle.actx_scope.specs.declared.walk.Walk.{Walk}
 use Rattle.actx_scope.specs.Scopes.{Scope, slot_names, opened}
-use Rattle.actx_scope.specs.Contexts.{Context, behind, owned_by, within}
+use Rattle.actx_scope.specs.Contexts.{Context, behind, owned_by}
 use Rattle.actx_scope.specs.Conditions.{when, first}
-use Rattle.actx_scope.specs.Nodes.{Mark, Marks, Part, mapped, all, binding, or_none, listed, has_some, all_names, any_repeats, rest_names, binding_node, members_marks, member_part_of, is_constructor}
+use Rattle.actx_scope.specs.Nodes.{Part, mapped, all, binding, or_none, listed, has_some, all_names, any_repeats, rest_names, binding_node, members_marks, member_part_of, is_constructor}
 use Rattle.actx_scope.specs.Statements as statements
 use Rattle.actx_scope.specs.Statements.{Statement, statement, all_slots, in_order}
 use Rattle.actx_scope.specs.Early.{Inside, spread}
@@ -105,8 +105,8 @@ pattern_adds i ps rest r p o a b d e start repeats er sa ae ao n s t es eo ee =
       scopes = es ∙ (t.scopes ∙ (n.scopes ∙ sa));
       earlier = back-again e.earlier d.earlier b.earlier (all_names ps) start s t.earlier ee ∙ (n.earlier ∙ ae);
       out = put i o.out b.out e.out errors [] (binding (ps ++ rest_names rest) c)
-        (n.out ∙ (ap (λ z. with_first z (first (when repeats kind.Redeclared)) []) ao ∙ ap (λ z. with_first o.out (first (when z kind.Redeclared)) []) er))
-        (eo ∙ (t.out ∙ (ap (λ z. after b.out (spread i (binding ps z))) same ∙ ap (λ z. after b.out (spread i z)) (sym (binding-rest ps rest c)))));
+          (n.out ∙ (ap (λ z. with_first z (first (when repeats kind.Redeclared)) []) ao ∙ ap (λ z. with_first o.out (first (when z kind.Redeclared)) []) er))
+          (eo ∙ (t.out ∙ (ap (λ z. after b.out (spread i (binding ps z))) same ∙ ap (λ z. after b.out (spread i z)) (sym (binding-rest ps rest c)))));
     }
 
 -- a declaration, which has no name after `...`
@@ -127,7 +127,7 @@ params_adds i ps rest p a b d e start s t u es eo ee =
       scopes = es ∙ (u.scopes ∙ t.scopes);
       earlier = back-again e.earlier d.earlier a.earlier (all_names ps) start s (u.earlier ∙ t.earlier) ee;
       out = follow i a.out b.out e.out (binding ps c) (or_none rest (behind (all_names ps) c)) t.out (eo ∙ (u.out ∙ ap (λ z. after b.out (spread i (or_none rest z))) same))
-        ∙ ap (λ z. after a.out (spread i z)) (sym (binding-last ps rest c));
+          ∙ ap (λ z. after a.out (spread i z)) (sym (binding-last ps rest c));
     }
 
 -- ---- bodies
@@ -143,5 +143,5 @@ body_adds i items p slots a b d e start o el bs be bo eo s t es eout ee =
       scopes = es ∙ (ap (λ z. closed z d.scopes) eo ∙ (ap (λ z. closed (has_any slots) z) (t.scopes ∙ bs) ∙ closed-opened slots a.scopes));
       earlier = back-again e.earlier d.earlier b.earlier (slot_names (all_slots ss)) start s t.earlier ee ∙ be;
       out = eout ∙ (t.out ∙ (ap (λ z. after z (spread i (in_order ss (around b roles.Evaluated p)))) bo
-        ∙ ap (λ z. after a.out (spread i (in_order ss z))) (around-same k b roles.Evaluated p (bs ∙ ap (λ z. opened z a.scopes) el) be)));
+          ∙ ap (λ z. after a.out (spread i (in_order ss z))) (around-same k b roles.Evaluated p (bs ∙ ap (λ z. opened z a.scopes) el) be)));
     }

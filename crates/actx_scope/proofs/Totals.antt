@@ -1,11 +1,10 @@
 -- What was found after nodes: the first of their errors, and all uses of names.
-use Rattle.std.proofs.Common.{◌≡◌, ℕ, ◌+◌, List, [], ◌∷◌, ◌++◌, map, refl, sym, ap, ◌∙◌, append_assoc, Option, Some, None}
+use Rattle.std.proofs.Common.{◌≡◌, ℕ, ◌+◌, List, [], ◌∷◌, ◌++◌, refl, sym, ap, ◌∙◌, append_assoc, Option, Some, None}
 use Rattle.std.specs.Prelude.{slice_get}
 use Rattle.std.proofs.lemmas.List.{append-nil}
 use Rattle.actx_scope.specs.declared.early.Early.{Early}
 use Rattle.actx_scope.specs.declared.early.EarlyKind.{EarlyKind}
 use Rattle.actx_scope.specs.declared.findings.Findings.{Findings}
-use Rattle.actx_scope.specs.declared.slot.Use.{Use}
 use Rattle.actx_scope.specs.Conditions.{first}
 use Rattle.actx_scope.specs.Early.{Node, errors_at, errors_from, uses_at, uses_from}
 use Rattle.actx_scope.specs.Walks.{after, with_node, early_at, or_first, nothing}

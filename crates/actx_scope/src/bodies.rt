@@ -26,11 +26,9 @@ fn is_body(body: &BodyTree, range: Unread, count: u128) -> bool
 
 /// The first body of a range, and the bodies behind it.
 pub fn body_of<'a>(bodies: Bodies<'a>, range: Unread) -> Option<(&'a BodyTree, Bodies<'a>)>
-    ensures {
-        MatchOption result
-            (body_of bodies.entry.count bodies.entry.list.now range ≡ None)
-            (λ found. (found.1.count ≡ bodies.entry.count) × (body_of bodies.entry.count bodies.entry.list.now range ≡ Some (found.0.now, found.1.list.now)))
-    }
+    ensures { MatchOption result
+        (body_of bodies.entry.count bodies.entry.list.now range ≡ None)
+        (λ found. (found.1.count ≡ bodies.entry.count) × (body_of bodies.entry.count bodies.entry.list.now range ≡ Some (found.0.now, found.1.list.now))) }
 {
     for (i, body) in bodies.list.iter().enumerate() {
         if is_body(body, range, bodies.count) {

@@ -126,11 +126,7 @@ pub fn add_prop(
 }
 
 /// Adds the slots of parameters.
-pub fn add_params(
-    alloc: Global,
-    params: &Params,
-    slots: &mut Items<Slot>,
-) -> Result<(), AllocError>
+pub fn add_params(alloc: Global, params: &Params, slots: &mut Items<Slot>) -> Result<(), AllocError>
     ensures { OnOk result (slots.new ≡ slots.old ++ slots_of false (nodes.params_part params.now).names) }
 {
     add_elems(alloc, params.elems.as_slice(), false, slots)?;
@@ -152,11 +148,7 @@ fn add_rest(
 }
 
 /// Adds the slots that a statement declares.
-pub fn add_stmt(
-    alloc: Global,
-    item: &Stmt,
-    slots: &mut Items<Slot>,
-) -> Result<(), AllocError>
+pub fn add_stmt(alloc: Global, item: &Stmt, slots: &mut Items<Slot>) -> Result<(), AllocError>
     ensures { OnOk result (slots.new ≡ slots.old ++ (statements.statement item.now).slots) }
 {
     match item {
@@ -219,10 +211,7 @@ pub fn slots_of_target(
 }
 
 /// The slots of what a `catch` binds.
-pub fn slots_of_caught(
-    alloc: Global,
-    target: &Option<Target>,
-) -> Result<Items<Slot>, AllocError>
+pub fn slots_of_caught(alloc: Global, target: &Option<Target>) -> Result<Items<Slot>, AllocError>
     ensures { IfOk result (λ slots. slots ≡ statements.caught_slots target.now) }
 {
     match target {
@@ -232,11 +221,7 @@ pub fn slots_of_caught(
 }
 
 /// The own name of a function or a class, unless it is declared.
-fn name_of(
-    alloc: Global,
-    role: Role,
-    name: &Option<Units>,
-) -> Result<Option<Units>, AllocError>
+fn name_of(alloc: Global, role: Role, name: &Option<Units>) -> Result<Option<Units>, AllocError>
     ensures { IfOk result (λ n. n ≡ own_name role name.now) }
 {
     match role {
@@ -276,11 +261,7 @@ pub fn hidden(alloc: Global, name: Option<Units>) -> Result<Items<Slot>, AllocEr
 }
 
 /// The hidden slots of a function.
-pub fn hidden_of(
-    alloc: Global,
-    role: Role,
-    name: &Option<Units>,
-) -> Result<Items<Slot>, AllocError>
+pub fn hidden_of(alloc: Global, role: Role, name: &Option<Units>) -> Result<Items<Slot>, AllocError>
     ensures { IfOk result (λ slots. slots ≡ hidden_slots (own_name role name.now)) }
 {
     let name = name_of(alloc, role, name)?;

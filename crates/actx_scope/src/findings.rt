@@ -39,11 +39,7 @@ fn early_at(at: usize, error: Option<EarlyKind>) -> Option<Early>
 }
 
 /// Adds the use of a name at a node, if there is one.
-fn add_use(
-    uses: &mut Items<Use>,
-    at: usize,
-    name: Option<Found>,
-) -> Result<(), AllocError>
+fn add_use(uses: &mut Items<Use>, at: usize, name: Option<Found>) -> Result<(), AllocError>
     ensures { OnOk result (uses.new ≡ uses.old ++ uses_at at (listed name)) }
 {
     match name {

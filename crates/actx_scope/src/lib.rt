@@ -5,7 +5,6 @@
 
 mod bodies;
 mod bound;
-
 mod conditions;
 mod earlier;
 mod early;
@@ -21,9 +20,9 @@ mod table;
 mod walk;
 mod words;
 
-pub use slots::{ScopeError, Slots, check};
 pub use conditions::{has_bad_key, is_constructor_key, is_member};
 pub use early::{Early, EarlyKind};
 pub use laws::{errors_in_order, forms_of_files, names_of_files, places_of_words};
 pub use place::{Owner, Place, Role};
 pub use slot::{Found, Slot, Use};
+pub use slots::{ScopeError, Slots, check};

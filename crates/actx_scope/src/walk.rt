@@ -20,8 +20,8 @@ ghost use Rattle.std.specs.Prelude.{◌≡◌, ◌∷◌, [], true, IfOk, OnOk};
 
 use crate::bodies::Bodies;
 use crate::conditions::name_error;
-use crate::early::EarlyKind;
 use crate::earlier::Earlier;
+use crate::early::EarlyKind;
 use crate::findings::{Findings, add_node};
 use crate::place::{Place, Role};
 use crate::scopes::Scopes;
@@ -55,11 +55,7 @@ pub struct Outer {
 
 impl Walk {
     /// Adds a node with its first error and the name that is used there.
-    pub fn add(
-        &mut self,
-        error: Option<EarlyKind>,
-        name: Option<Found>,
-    ) -> Result<(), AllocError>
+    pub fn add(&mut self, error: Option<EarlyKind>, name: Option<Found>) -> Result<(), AllocError>
         ensures { OnOk result (AddsNode error (nodes.listed name) self.old self.new) }
     {
         add_node(&mut self.out, error, name)
@@ -122,12 +118,7 @@ impl<F: Fn(Bodies<'_>, Unread, Place, &mut Walk) -> Result<(), AllocError>> Inne
     }
 
     /// The body of a function.
-    pub fn of_body(
-        &self,
-        range: Unread,
-        place: Place,
-        walk: &mut Walk,
-    ) -> Result<(), AllocError>
+    pub fn of_body(&self, range: Unread, place: Place, walk: &mut Walk) -> Result<(), AllocError>
         requires holds { Holds self.now.bodies (F.pre self.now.body) (F.post self.now.body) }
         ensures { OnOk result (Adds (inside_of self.now.bodies) (nodes.body_marks range) roles.Evaluated place walk.old walk.new) }
     {

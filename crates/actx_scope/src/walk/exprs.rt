@@ -161,12 +161,7 @@ impl<F: Fn(Bodies<'_>, Unread, Place, &mut Walk) -> Result<(), AllocError>> Inne
 
     /// Expressions in a row.
     #[cycle(walk)]
-    fn of_exprs(
-        &self,
-        trees: &[Expr],
-        place: Place,
-        walk: &mut Walk,
-    ) -> Result<(), AllocError>
+    fn of_exprs(&self, trees: &[Expr], place: Place, walk: &mut Walk) -> Result<(), AllocError>
         requires holds { Holds self.now.bodies (F.pre self.now.body) (F.post self.now.body) }
         ensures { OnOk result (Adds (inside_of self.now.bodies) (nodes.all (map nodes.expr_part trees.now)) roles.Evaluated place walk.old walk.new) }
     {
@@ -178,12 +173,7 @@ impl<F: Fn(Bodies<'_>, Unread, Place, &mut Walk) -> Result<(), AllocError>> Inne
 
     /// The values of a template.
     #[cycle(walk)]
-    fn of_pieces(
-        &self,
-        pieces: &[Piece],
-        place: Place,
-        walk: &mut Walk,
-    ) -> Result<(), AllocError>
+    fn of_pieces(&self, pieces: &[Piece], place: Place, walk: &mut Walk) -> Result<(), AllocError>
         requires holds { Holds self.now.bodies (F.pre self.now.body) (F.post self.now.body) }
         ensures { OnOk result (Adds (inside_of self.now.bodies) (nodes.all (map nodes.piece_part pieces.now)) roles.Evaluated place walk.old walk.new) }
     {
@@ -195,12 +185,7 @@ impl<F: Fn(Bodies<'_>, Unread, Place, &mut Walk) -> Result<(), AllocError>> Inne
 
     /// A value of a template.
     #[cycle(walk)]
-    fn of_piece(
-        &self,
-        piece: &Piece,
-        place: Place,
-        walk: &mut Walk,
-    ) -> Result<(), AllocError>
+    fn of_piece(&self, piece: &Piece, place: Place, walk: &mut Walk) -> Result<(), AllocError>
         requires holds { Holds self.now.bodies (F.pre self.now.body) (F.post self.now.body) }
         ensures { OnOk result (Adds (inside_of self.now.bodies) ((nodes.piece_part piece.now).marks) roles.Evaluated place walk.old walk.new) }
     {
@@ -226,12 +211,7 @@ impl<F: Fn(Bodies<'_>, Unread, Place, &mut Walk) -> Result<(), AllocError>> Inne
 
     /// An operand of a chain.
     #[cycle(walk)]
-    fn of_operand(
-        &self,
-        operand: &Operand,
-        place: Place,
-        walk: &mut Walk,
-    ) -> Result<(), AllocError>
+    fn of_operand(&self, operand: &Operand, place: Place, walk: &mut Walk) -> Result<(), AllocError>
         requires holds { Holds self.now.bodies (F.pre self.now.body) (F.post self.now.body) }
         ensures { OnOk result (Adds (inside_of self.now.bodies) ((nodes.operand_part operand.now).marks) roles.Evaluated place walk.old walk.new) }
     {
@@ -274,12 +254,7 @@ impl<F: Fn(Bodies<'_>, Unread, Place, &mut Walk) -> Result<(), AllocError>> Inne
 
     /// The entries of an object.
     #[cycle(walk)]
-    fn of_entries(
-        &self,
-        entries: &[Entry],
-        place: Place,
-        walk: &mut Walk,
-    ) -> Result<(), AllocError>
+    fn of_entries(&self, entries: &[Entry], place: Place, walk: &mut Walk) -> Result<(), AllocError>
         requires holds { Holds self.now.bodies (F.pre self.now.body) (F.post self.now.body) }
         ensures { OnOk result (Adds (inside_of self.now.bodies) (nodes.all (map nodes.entry_part entries.now)) roles.Evaluated place walk.old walk.new) }
     {
@@ -291,12 +266,7 @@ impl<F: Fn(Bodies<'_>, Unread, Place, &mut Walk) -> Result<(), AllocError>> Inne
 
     /// An entry of an object.
     #[cycle(walk)]
-    fn of_entry(
-        &self,
-        entry: &Entry,
-        place: Place,
-        walk: &mut Walk,
-    ) -> Result<(), AllocError>
+    fn of_entry(&self, entry: &Entry, place: Place, walk: &mut Walk) -> Result<(), AllocError>
         requires holds { Holds self.now.bodies (F.pre self.now.body) (F.post self.now.body) }
         ensures { OnOk result (Adds (inside_of self.now.bodies) ((nodes.entry_part entry.now).marks) roles.Evaluated place walk.old walk.new) }
     {
@@ -317,12 +287,7 @@ impl<F: Fn(Bodies<'_>, Unread, Place, &mut Walk) -> Result<(), AllocError>> Inne
 
     /// A key.
     #[cycle(walk)]
-    pub fn of_key(
-        &self,
-        key: &Key,
-        place: Place,
-        walk: &mut Walk,
-    ) -> Result<(), AllocError>
+    pub fn of_key(&self, key: &Key, place: Place, walk: &mut Walk) -> Result<(), AllocError>
         requires holds { Holds self.now.bodies (F.pre self.now.body) (F.post self.now.body) }
         ensures { OnOk result (Adds (inside_of self.now.bodies) ((nodes.key_part key.now).marks) roles.Evaluated place walk.old walk.new) }
     {
@@ -353,12 +318,7 @@ impl<F: Fn(Bodies<'_>, Unread, Place, &mut Walk) -> Result<(), AllocError>> Inne
 
     /// A suffix.
     #[cycle(walk)]
-    fn of_suffix(
-        &self,
-        suffix: &Suffix,
-        place: Place,
-        walk: &mut Walk,
-    ) -> Result<(), AllocError>
+    fn of_suffix(&self, suffix: &Suffix, place: Place, walk: &mut Walk) -> Result<(), AllocError>
         requires holds { Holds self.now.bodies (F.pre self.now.body) (F.post self.now.body) }
         ensures { OnOk result (Adds (inside_of self.now.bodies) ((nodes.suffix_part suffix.now).marks) roles.Evaluated place walk.old walk.new) }
     {

@@ -120,7 +120,14 @@ impl<F: Fn(Bodies<'_>, Unread, Place, &mut Walk) -> Result<(), AllocError>> Inne
         let repeats = params_repeat(self.bodies.alloc, params)?;
         walk.add(when(repeats, EarlyKind::Redeclared), None)?;
         let hidden = Items::new(self.bodies.alloc);
-        self.of_called(hidden, params, arrow_flow_of(is_async), body, place.in_arrow(), walk)?;
+        self.of_called(
+            hidden,
+            params,
+            arrow_flow_of(is_async),
+            body,
+            place.in_arrow(),
+            walk,
+        )?;
         Ok(())
     }
 
@@ -140,7 +147,14 @@ impl<F: Fn(Bodies<'_>, Unread, Place, &mut Walk) -> Result<(), AllocError>> Inne
         let is_wrong = either(is_redeclared(role, &function.name, &walk.earlier), repeats);
         walk.add(when(is_wrong, EarlyKind::Redeclared), None)?;
         let hidden = hidden_of(self.bodies.alloc, role, &function.name)?;
-        self.of_called(hidden, &function.params, function.flow, function.body, place.in_function(), walk)?;
+        self.of_called(
+            hidden,
+            &function.params,
+            function.flow,
+            function.body,
+            place.in_function(),
+            walk,
+        )?;
         Ok(())
     }
 
@@ -161,7 +175,14 @@ impl<F: Fn(Bodies<'_>, Unread, Place, &mut Walk) -> Result<(), AllocError>> Inne
         self.of_key(&method.key, place, walk)?;
         let inner = place.in_method(is_derived_constructor(place.owner, &method.key));
         let hidden = hidden(self.bodies.alloc, None)?;
-        self.of_called(hidden, &method.params, method.flow, method.body, inner, walk)?;
+        self.of_called(
+            hidden,
+            &method.params,
+            method.flow,
+            method.body,
+            inner,
+            walk,
+        )?;
         Ok(())
     }
 
@@ -198,7 +219,12 @@ impl<F: Fn(Bodies<'_>, Unread, Place, &mut Walk) -> Result<(), AllocError>> Inne
     {
         let outer = walk.scopes.open(slots)?;
         self.of_optional(&class.parent, place, walk)?;
-        self.of_members(class.members.as_slice(), class.parent.is_some(), place, walk)?;
+        self.of_members(
+            class.members.as_slice(),
+            class.parent.is_some(),
+            place,
+            walk,
+        )?;
         walk.scopes.close(outer);
         Ok(())
     }
@@ -217,7 +243,11 @@ impl<F: Fn(Bodies<'_>, Unread, Place, &mut Walk) -> Result<(), AllocError>> Inne
     {
         let mut has_constructor = false;
         for member in members {
-            self.of_member(member, place.owned_by(Owner::Class(has_parent, has_constructor)), walk)?;
+            self.of_member(
+                member,
+                place.owned_by(Owner::Class(has_parent, has_constructor)),
+                walk,
+            )?;
             let is_constructor = is_constructor_member(member);
             has_constructor = either(has_constructor, is_constructor);
         }
@@ -226,12 +256,7 @@ impl<F: Fn(Bodies<'_>, Unread, Place, &mut Walk) -> Result<(), AllocError>> Inne
 
     /// A member of a class.
     #[cycle(walk)]
-    fn of_member(
-        &self,
-        member: &Member,
-        place: Place,
-        walk: &mut Walk,
-    ) -> Result<(), AllocError>
+    fn of_member(&self, member: &Member, place: Place, walk: &mut Walk) -> Result<(), AllocError>
         requires holds { Holds self.now.bodies (F.pre self.now.body) (F.post self.now.body) }
         ensures { OnOk result (Adds (inside_of self.now.bodies) ((nodes.member_part_of member.now).marks) roles.Evaluated place walk.old walk.new) }
     {

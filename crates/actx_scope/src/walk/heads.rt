@@ -31,12 +31,7 @@ impl<F: Fn(Bodies<'_>, Unread, Place, &mut Walk) -> Result<(), AllocError>> Inne
     }
 
     /// What comes first in the head of a `for`.
-    pub fn of_first(
-        &self,
-        first: &ForInit,
-        place: Place,
-        walk: &mut Walk,
-    ) -> Result<(), AllocError>
+    pub fn of_first(&self, first: &ForInit, place: Place, walk: &mut Walk) -> Result<(), AllocError>
         requires holds { Holds self.now.bodies (F.pre self.now.body) (F.post self.now.body) }
         ensures { OnOk result (Adds (inside_of self.now.bodies) (statements.for_init_marks first.now) roles.Evaluated place walk.old walk.new) }
     {

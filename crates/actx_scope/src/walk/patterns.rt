@@ -96,12 +96,7 @@ impl<F: Fn(Bodies<'_>, Unread, Place, &mut Walk) -> Result<(), AllocError>> Inne
 
     /// The properties of an object pattern.
     #[cycle(walk)]
-    pub fn of_props(
-        &self,
-        props: &[Prop],
-        place: Place,
-        walk: &mut Walk,
-    ) -> Result<(), AllocError>
+    pub fn of_props(&self, props: &[Prop], place: Place, walk: &mut Walk) -> Result<(), AllocError>
         requires holds { Holds self.now.bodies (F.pre self.now.body) (F.post self.now.body) }
         ensures { OnOk result (Binds (inside_of self.now.bodies) (nodes.binding (map nodes.prop_part props.now)) (nodes.all_names (map nodes.prop_part props.now)) roles.Evaluated place walk.old walk.new) }
     {
@@ -114,12 +109,7 @@ impl<F: Fn(Bodies<'_>, Unread, Place, &mut Walk) -> Result<(), AllocError>> Inne
 
     /// A property of an object pattern.
     #[cycle(walk)]
-    fn of_prop(
-        &self,
-        prop: &Prop,
-        place: Place,
-        walk: &mut Walk,
-    ) -> Result<(), AllocError>
+    fn of_prop(&self, prop: &Prop, place: Place, walk: &mut Walk) -> Result<(), AllocError>
         requires holds { Holds self.now.bodies (F.pre self.now.body) (F.post self.now.body) }
         ensures { OnOk result (Adds (inside_of self.now.bodies) ((nodes.prop_part prop.now).marks) roles.Evaluated place walk.old walk.new) }
     {
@@ -135,12 +125,7 @@ impl<F: Fn(Bodies<'_>, Unread, Place, &mut Walk) -> Result<(), AllocError>> Inne
 
     /// What elements bind.
     #[cycle(walk)]
-    pub fn of_elems(
-        &self,
-        elems: &[Elem],
-        place: Place,
-        walk: &mut Walk,
-    ) -> Result<(), AllocError>
+    pub fn of_elems(&self, elems: &[Elem], place: Place, walk: &mut Walk) -> Result<(), AllocError>
         requires holds { Holds self.now.bodies (F.pre self.now.body) (F.post self.now.body) }
         ensures { OnOk result (Binds (inside_of self.now.bodies) (nodes.binding (map nodes.elem_part elems.now)) (nodes.all_names (map nodes.elem_part elems.now)) roles.Evaluated place walk.old walk.new) }
     {
@@ -153,12 +138,7 @@ impl<F: Fn(Bodies<'_>, Unread, Place, &mut Walk) -> Result<(), AllocError>> Inne
 
     /// A target and its default.
     #[cycle(walk)]
-    fn of_elem(
-        &self,
-        elem: &Elem,
-        place: Place,
-        walk: &mut Walk,
-    ) -> Result<(), AllocError>
+    fn of_elem(&self, elem: &Elem, place: Place, walk: &mut Walk) -> Result<(), AllocError>
         requires holds { Holds self.now.bodies (F.pre self.now.body) (F.post self.now.body) }
         ensures { OnOk result (Adds (inside_of self.now.bodies) ((nodes.elem_part elem.now).marks) roles.Evaluated place walk.old walk.new) }
     {

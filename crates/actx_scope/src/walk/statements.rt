@@ -22,12 +22,7 @@ use std::alloc::AllocError;
 impl<F: Fn(Bodies<'_>, Unread, Place, &mut Walk) -> Result<(), AllocError>> Inner<'_, F> {
     /// Statements in a row; the names that they declare stand before the place then.
     #[cycle(steps)]
-    pub fn of_items(
-        &self,
-        items: &[Stmt],
-        place: Place,
-        walk: &mut Walk,
-    ) -> Result<(), AllocError>
+    pub fn of_items(&self, items: &[Stmt], place: Place, walk: &mut Walk) -> Result<(), AllocError>
         requires holds { Holds self.now.bodies (F.pre self.now.body) (F.post self.now.body) }
         ensures { OnOk result (Binds (inside_of self.now.bodies) (statements.in_order (map statements.statement items.now)) (slot_names (statements.all_slots (map statements.statement items.now))) roles.Evaluated place walk.old walk.new) }
     {
@@ -40,12 +35,7 @@ impl<F: Fn(Bodies<'_>, Unread, Place, &mut Walk) -> Result<(), AllocError>> Inne
 
     /// Statements in a scope of their own.
     #[cycle(steps)]
-    pub fn of_block(
-        &self,
-        items: &[Stmt],
-        place: Place,
-        walk: &mut Walk,
-    ) -> Result<(), AllocError>
+    pub fn of_block(&self, items: &[Stmt], place: Place, walk: &mut Walk) -> Result<(), AllocError>
         requires holds { Holds self.now.bodies (F.pre self.now.body) (F.post self.now.body) }
         ensures { OnOk result (Adds (inside_of self.now.bodies) (statements.block (map statements.statement items.now)) roles.Evaluated place walk.old walk.new) }
     {
@@ -58,12 +48,7 @@ impl<F: Fn(Bodies<'_>, Unread, Place, &mut Walk) -> Result<(), AllocError>> Inne
 
     /// A statement.
     #[cycle(steps)]
-    pub fn of_stmt(
-        &self,
-        item: &Stmt,
-        place: Place,
-        walk: &mut Walk,
-    ) -> Result<(), AllocError>
+    pub fn of_stmt(&self, item: &Stmt, place: Place, walk: &mut Walk) -> Result<(), AllocError>
         requires holds { Holds self.now.bodies (F.pre self.now.body) (F.post self.now.body) }
         ensures { OnOk result (Adds (inside_of self.now.bodies) ((statements.statement item.now).marks) roles.Evaluated place walk.old walk.new) }
     {
@@ -244,12 +229,7 @@ impl<F: Fn(Bodies<'_>, Unread, Place, &mut Walk) -> Result<(), AllocError>> Inne
 
     /// A `catch`, in the scope of what it binds.
     #[cycle(steps)]
-    fn of_catch(
-        &self,
-        clause: &Catch,
-        place: Place,
-        walk: &mut Walk,
-    ) -> Result<(), AllocError>
+    fn of_catch(&self, clause: &Catch, place: Place, walk: &mut Walk) -> Result<(), AllocError>
         requires holds { Holds self.now.bodies (F.pre self.now.body) (F.post self.now.body) }
         ensures { OnOk result (Adds (inside_of self.now.bodies) ((statements.handler_of clause.now).marks) roles.Evaluated place walk.old walk.new) }
     {

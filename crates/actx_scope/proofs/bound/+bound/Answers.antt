@@ -1,6 +1,5 @@
-use Rattle.std.proofs.Common.{◌≡◌, ◌<◌, ◌≤◌, length, map, arith, append_assoc, append-nil, ◌∙◌, ap, sym, refl}
-use Rattle.actx_scope.specs.Scopes.{slots_of}
-use Rattle.actx_scope.specs.Nodes.{elem_part, prop_part, all_names, rest_names, listed}
+use Rattle.std.proofs.Common.{◌<◌, ◌≤◌, length, arith, append_assoc, refl}
+use Rattle.actx_scope.specs.Nodes.{elem_part, prop_part}
 use Rattle.actx_scope.proofs.Lists.{more, finished}
 use Rattle.actx_scope.proofs.Names.{slots-left, slots-done, pattern-slots}
 use Rattle.actx_scope.proofs.PartEquations.{elem_part-fields, prop_part-Shorthand, prop_part-Pair, target_part-Name, target_part-Object, target_part-Array}

@@ -1,4 +1,4 @@
-use Rattle.std.proofs.Common.{◌≡◌, ◌++◌, false, append_assoc}
+use Rattle.std.proofs.Common.{append_assoc}
 use Rattle.actx_scope.proofs.Names.{params-slots}
 use Rattle.actx_scope.proofs.PartEquations.{params_part-fields}
 use Rattle.actx_scope.proofs.bound.add_params.Goals as goal

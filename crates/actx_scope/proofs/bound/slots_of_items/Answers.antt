@@ -1,4 +1,4 @@
-use Rattle.std.proofs.Common.{◌≡◌, ◌<◌, ◌≤◌, length, arith, refl}
+use Rattle.std.proofs.Common.{arith, refl}
 use Rattle.actx_scope.proofs.Lists.{more, finished}
 use Rattle.actx_scope.proofs.Patterns.{slots-left_of_stmts, slots-done_of_stmts}
 use Rattle.actx_scope.proofs.bound.slots_of_items.Goals as goal

@@ -1,4 +1,4 @@
-use Rattle.std.proofs.Common.{◌≡◌, ℕ, ◌+◌, ◌<◌, ◌≤◌, List, [], length, get_or, drop, arith, refl, ap}
+use Rattle.std.proofs.Common.{ℕ, ◌+◌, ◌<◌, List, [], length, get_or, drop, arith, ap}
 use Rattle.std.proofs.lemmas.List.{drop_more}
 use denote.Ref.{Bor}
 use Rattle.actx_scope.specs.WordSlots.{word_slot, word_slots}

@@ -1,4 +1,3 @@
-use Rattle.std.proofs.Common.{◌≡◌, ◌++◌, ◌||◌, map}
 use Rattle.actx_scope.proofs.Names.{any_repeats-append}
 use Rattle.actx_scope.proofs.PartEquations.{params_part-fields}
 use Rattle.actx_scope.proofs.repeats.params_repeat.Goals as goal

@@ -1,4 +1,4 @@
-use Rattle.std.proofs.Common.{◌≡◌, ◌++◌, false}
+use Rattle.std.proofs.Common.{false}
 use Rattle.actx_scope.specs.Nodes as nodes
 use Rattle.actx_scope.proofs.Names.{slot_names-of}
 use Rattle.actx_scope.proofs.repeats.pass_elem.Goals as goal

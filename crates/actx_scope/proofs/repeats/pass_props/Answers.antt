@@ -1,4 +1,4 @@
-use Rattle.std.proofs.Common.{◌≡◌, ◌<◌, ◌≤◌, length, map, arith, refl}
+use Rattle.std.proofs.Common.{◌<◌, length, arith, refl}
 use Rattle.actx_scope.specs.Nodes.{prop_part}
 use Rattle.actx_scope.proofs.Lists.{more, finished}
 use Rattle.actx_scope.proofs.Names.{names-left, names-done, repeats_more, repeats_done}

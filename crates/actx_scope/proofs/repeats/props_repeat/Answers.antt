@@ -1,5 +1,3 @@
-use Rattle.std.proofs.Common.{◌≡◌, ◌++◌, ◌||◌, map, ◌∙◌, sym}
-use Rattle.actx_scope.specs.Nodes.{prop_part, rest_names}
 use Rattle.actx_scope.proofs.Names.{any_repeats-append}
 use Rattle.actx_scope.proofs.Insides.{back-again}
 use Rattle.actx_scope.proofs.repeats.props_repeat.Goals as goal

@@ -1,4 +1,4 @@
-use Rattle.std.proofs.Common.{◌≡◌, ◌<◌, ◌≤◌, [], length, arith, refl, sym, ap, ◌∙◌}
+use Rattle.std.proofs.Common.{◌≡◌, [], length, arith, sym, ap, ◌∙◌}
 use Rattle.actx_scope.specs.Scopes.{found_from}
 use Rattle.actx_scope.proofs.Founds.{found_met, found_further, found_outside}
 use Rattle.actx_scope.proofs.scopes.find_in.Goals as goal

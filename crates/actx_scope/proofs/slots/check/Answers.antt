@@ -1,4 +1,4 @@
-use Rattle.std.proofs.Common.{◌≡◌, ◌∙◌, ap}
+use Rattle.std.proofs.Common.{◌∙◌, ap}
 use Rattle.actx_scope.specs.Checks.{slots_of_uses}
 use Rattle.actx_scope.specs.Early.{tree_nodes}
 use Rattle.actx_scope.proofs.Totals as total

@@ -1,4 +1,4 @@
-use Rattle.std.proofs.Common.{◌≡◌, ◌+◌, ◌<◌, ◌≤◌, length, drop, arith, refl}
+use Rattle.std.proofs.Common.{◌+◌, ◌<◌, length, drop, arith}
 use Rattle.actx_scope.proofs.Lists.{left, done}
 use Rattle.actx_scope.proofs.Names.{last_step, last_done}
 use Rattle.actx_scope.proofs.table.last_of.Goals as goal

@@ -1,4 +1,4 @@
-use Rattle.std.proofs.Common.{◌≡◌, ◌<◌, ◌≤◌, length, arith, refl}
+use Rattle.std.proofs.Common.{◌≡◌, arith, refl}
 use Rattle.actx_scope.proofs.Names.{among_met, among_more, among_done}
 use Rattle.actx_scope.proofs.earlier.Earlier.has.Goals as goal
 

@@ -1,5 +1,5 @@
 -- What each function of the walk over statements adds is what the statement has.
-use Rattle.std.proofs.Common.{◌≡◌, refl, ◌+◌, ◌<◌, ◌≤◌, [], length, map, drop, arith, rules, Some, None}
+use Rattle.std.proofs.Common.{refl, ◌+◌, ◌<◌, ◌≤◌, length, map, drop, arith, Some, None}
 use Rattle.actx_tree.specs.declared.stmt.Catch.{out-Catch}
 use Rattle.actx_scope.specs.declared.early.EarlyKind.TheVariants as kind
 use Rattle.actx_scope.specs.declared.place.Role.TheVariants as roles

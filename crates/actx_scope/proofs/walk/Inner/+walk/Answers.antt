@@ -1,5 +1,5 @@
 -- What each function of the walk adds is what the part has.
-use Rattle.std.proofs.Common.{◌≡◌, refl, ◌+◌, ◌<◌, ◌≤◌, ◌||◌, ◌++◌, [], ◌∷◌, length, map, drop, arith, rules, Some, None, sym}
+use Rattle.std.proofs.Common.{refl, ◌+◌, ◌<◌, ◌≤◌, ◌||◌, ◌++◌, [], length, map, drop, arith, Some, None}
 use Rattle.actx_tree.specs.declared.function.Function.{out-Function}
 use Rattle.actx_tree.specs.declared.function.Method.{out-Method}
 use Rattle.actx_tree.specs.declared.function.Class.{out-Class}
@@ -8,7 +8,7 @@ use Rattle.actx_scope.specs.declared.place.Owner.TheVariants as owner
 use Rattle.actx_scope.specs.declared.place.Role.TheVariants as roles
 use Rattle.actx_scope.specs.Nodes as nodes
 use Rattle.actx_scope.specs.Nodes.{both}
-use Rattle.actx_scope.specs.Scopes.{slots_of, hidden_slots}
+use Rattle.actx_scope.specs.Scopes.{hidden_slots}
 use Rattle.actx_scope.specs.Contexts.{arrow_place, function_place, method_place, owned_place, own_name, named_scope}
 use Rattle.actx_scope.specs.Conditions as condition
 use Rattle.actx_scope.specs.Walks.{called, class_inner}

@@ -1,7 +1,5 @@
-use Rattle.std.proofs.Common.{◌≡◌, ◌++◌, refl, sym, subst, map, None, List}
-use Rattle.std.proofs.lemmas.List.{append-nil}
+use Rattle.std.proofs.Common.{refl, map}
 use Rattle.actx_scope.specs.Nodes as nodes
-use Rattle.actx_scope.specs.Walks.{Adds}
 use Rattle.actx_scope.proofs.Patterns.{declared_adds}
 use Rattle.actx_scope.proofs.walk.Inner.of_declared.Goals as goal
 

@@ -1,7 +1,3 @@
-use Rattle.std.proofs.Common.{◌++◌}
-use Rattle.actx_scope.specs.declared.early.EarlyKind.TheVariants as kind
-use Rattle.actx_scope.specs.Conditions as condition
-use Rattle.actx_scope.specs.Scopes.{found}
 use Rattle.actx_scope.proofs.Adds.{name_ok}
 use Rattle.actx_scope.proofs.walk.Inner.of_name.Goals as goal
 

@@ -1,4 +1,3 @@
-use Rattle.std.proofs.Common.{◌≡◌}
 use Rattle.actx_scope.proofs.Knots.{whole_tree}
 use Rattle.actx_scope.proofs.walk.knot.walk_tree.Goals as goal
 

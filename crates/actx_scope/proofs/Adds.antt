@@ -3,21 +3,21 @@ use Rattle.std.proofs.Common.{◌≡◌, List, [], ◌∷◌, ◌++◌, refl, sy
 use Rattle.std.specs.Prelude.{Result, OnOk}
 use Rattle.std.proofs.lemmas.List.{append-nil}
 use Rattle.actx_text.specs.declared.units.Units.{Units}
-use Rattle.actx_scope.specs.declared.early.EarlyKind.{EarlyKind}
+use Rattle.actx_scope_rules.specs.declared.early.EarlyKind.{EarlyKind}
 use Rattle.actx_scope.specs.declared.findings.Findings.{Findings}
-use Rattle.actx_scope.specs.declared.place.Owner.{Owner}
-use Rattle.actx_scope.specs.declared.place.Place.{Place}
-use Rattle.actx_scope.specs.declared.place.Role.{Role}
-use Rattle.actx_scope.specs.declared.place.Role.TheVariants as roles
-use Rattle.actx_scope.specs.declared.slot.Found.{Found}
+use Rattle.actx_scope_rules.specs.declared.place.Owner.{Owner}
+use Rattle.actx_scope_rules.specs.declared.place.Place.{Place}
+use Rattle.actx_scope_rules.specs.declared.place.Role.{Role}
+use Rattle.actx_scope_rules.specs.declared.place.Role.TheVariants as roles
+use Rattle.actx_scope_rules.specs.declared.slot.Found.{Found}
 use Rattle.actx_scope.specs.declared.walk.Walk.{Walk}
-use Rattle.actx_scope.specs.Contexts.{Context, owned_place, turn_place, behind}
-use Rattle.actx_scope.specs.Statements.{looped}
-use Rattle.actx_scope.specs.declared.early.EarlyKind.TheVariants as kind
-use Rattle.actx_scope.specs.Scopes.{found}
-use Rattle.actx_scope.specs.Conditions.{first, when, is_not_declared, is_const_assigned}
-use Rattle.actx_scope.specs.Nodes.{Mark, at_node, at_body, Marks, none, both, node, name_node, listed, with_role, with_owner}
-use Rattle.actx_scope.specs.Early.{Node, Inside, spread}
+use Rattle.actx_scope_rules.specs.Contexts.{Context, owned_place, turn_place, behind}
+use Rattle.actx_scope_rules.specs.Statements.{looped}
+use Rattle.actx_scope_rules.specs.declared.early.EarlyKind.TheVariants as kind
+use Rattle.actx_scope_rules.specs.Scopes.{found}
+use Rattle.actx_scope_rules.specs.Conditions.{first, when, is_not_declared, is_const_assigned}
+use Rattle.actx_scope_rules.specs.Nodes.{Mark, at_node, at_body, Marks, none, both, node, name_node, listed, with_role, with_owner}
+use Rattle.actx_scope_rules.specs.Early.{Node, Inside, spread}
 use Rattle.actx_scope.specs.Walks.{with_first, with_node, after, around, AddsNode, Adds, Binds}
 
 -- ---- findings

@@ -6,7 +6,7 @@ use Rattle.std.proofs.Math.Seq.{take-length}
 use Rattle.actx_tree.specs.declared.function.Unread.{Unread}
 use Rattle.actx_tree.specs.declared.tree.BodyTree.{BodyTree}
 use Rattle.actx_scope.specs.Bodies.{body_of}
-use Rattle.actx_scope.proofs.Lists.{left, done}
+use Rattle.actx_scope_rules.proofs.Lists.{left, done}
 
 abbrev pub here : ℕ → BodyTree → List BodyTree → Unread → Bool → Option (BodyTree × List BodyTree)
 here count x xs range b = if b then Some (x, xs) else body_of count xs range

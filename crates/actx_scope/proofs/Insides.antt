@@ -4,19 +4,20 @@ use Rattle.std.proofs.Common.{◌≡◌, ℕ, Bool, true, false, List, [], ◌�
 use Rattle.std.proofs.Math.Seq.{take-append_seam}
 use Rattle.actx_text.specs.declared.units.Units.{Units}
 use Rattle.actx_tree.specs.declared.function.Flow.{Flow}
-use Rattle.actx_scope.specs.declared.place.Place.{Place}
-use Rattle.actx_scope.specs.declared.place.Role.{Role}
-use Rattle.actx_scope.specs.declared.place.Role.TheVariants as roles
+use Rattle.actx_scope_rules.specs.declared.place.Place.{Place}
+use Rattle.actx_scope_rules.specs.declared.place.Role.{Role}
+use Rattle.actx_scope_rules.specs.declared.place.Role.TheVariants as roles
 use Rattle.actx_scope.specs.declared.walk.Walk.{Walk}
 use Rattle.actx_scope.specs.declared.walk.Outer.{Outer}
-use Rattle.actx_scope.specs.Scopes.{Scope, slots_of, opened}
-use Rattle.actx_scope.specs.Contexts.{arrow_place, body_place}
-use Rattle.actx_scope.specs.Conditions.{first, when}
-use Rattle.actx_scope.specs.declared.early.EarlyKind.TheVariants as kind
-use Rattle.actx_scope.specs.Nodes.{Marks, Part, both, or_none, arrow_flow, arrow_node, members_marks, has_some}
-use Rattle.actx_scope.specs.Statements.{scoped}
-use Rattle.actx_scope.specs.Early.{Inside, spread}
-use Rattle.actx_scope.specs.Walks.{with_first, after, around, AddsNode, Adds, Binds, Begins, Ends, called, named, class_inner, has_any, closed}
+use Rattle.actx_scope_rules.specs.Scopes.{Scope, slots_of, opened}
+use Rattle.actx_scope_rules.specs.Contexts.{arrow_place, body_place}
+use Rattle.actx_scope_rules.specs.Conditions.{first, when}
+use Rattle.actx_scope_rules.specs.declared.early.EarlyKind.TheVariants as kind
+use Rattle.actx_scope_rules.specs.Nodes.{Marks, Part, both, or_none, arrow_flow, arrow_node, members_marks, has_some}
+use Rattle.actx_scope_rules.specs.Statements.{scoped}
+use Rattle.actx_scope_rules.specs.Early.{Inside, spread}
+use Rattle.actx_scope.specs.Walks.{with_first, after, around, AddsNode, Adds, Binds, Begins, Ends, called, named, class_inner}
+use Rattle.actx_scope_rules.specs.Scopes.{has_any, closed}
 use Rattle.actx_scope.proofs.Adds.{adds-behind_node, adds-both, adds-as, adds-inside, binds-inside, around-same}
 
 -- the names as they were

@@ -6,13 +6,13 @@ use Rattle.actx_tree.specs.declared.function.Unread.{Unread}
 use Rattle.actx_tree.specs.declared.stmt.Stmt.{Stmt}
 use Rattle.actx_tree.specs.declared.tree.BodyTree.{BodyTree}
 use Rattle.actx_tree.specs.declared.tree.Tree.{Tree}
-use Rattle.actx_scope.specs.declared.place.Place.{Place}
-use Rattle.actx_scope.specs.declared.place.Role.TheVariants as roles
+use Rattle.actx_scope_rules.specs.declared.place.Place.{Place}
+use Rattle.actx_scope_rules.specs.declared.place.Role.TheVariants as roles
 use Rattle.actx_scope.specs.declared.walk.Walk.{Walk}
-use Rattle.actx_scope.specs.Contexts.{Context, file_place}
-use Rattle.actx_scope.specs.Nodes.{body_marks}
-use Rattle.actx_scope.specs.Statements as statements
-use Rattle.actx_scope.specs.Early.{Node, spread, nodes_in, token_count, tree_nodes}
+use Rattle.actx_scope_rules.specs.Contexts.{Context, file_place}
+use Rattle.actx_scope_rules.specs.Nodes.{body_marks}
+use Rattle.actx_scope_rules.specs.Statements as statements
+use Rattle.actx_scope_rules.specs.Early.{Node, spread, nodes_in, token_count, tree_nodes}
 use Rattle.actx_scope.specs.Bodies.{body_of}
 use Rattle.actx_scope.specs.Walks.{after, around, with_part, nothing, Adds}
 

@@ -1,15 +1,6 @@
-pub mod FoldEquations
-pub mod PartEquations
-pub mod StatementEquations
-pub mod Orders
-pub mod Worked
-pub mod Units
-pub mod Lists
-pub mod Names
 pub mod Adds
 pub mod Insides
 pub mod Patterns
 pub mod BodyFinds
 pub mod Knots
 pub mod Totals
-pub mod Founds

@@ -5,22 +5,23 @@ use Rattle.std.proofs.lemmas.List.{append-nil}
 use Rattle.actx_text.specs.declared.units.Units.{Units}
 use Rattle.actx_tree.specs.declared.function.Member.{Member}
 use Rattle.actx_tree.specs.declared.stmt.Stmt.{Stmt}
-use Rattle.actx_scope.specs.declared.early.EarlyKind.TheVariants as kind
-use Rattle.actx_scope.specs.declared.place.Place.{Place}
-use Rattle.actx_scope.specs.declared.place.Owner.TheVariants as owner
-use Rattle.actx_scope.specs.declared.place.Role.{Role}
-use Rattle.actx_scope.specs.declared.place.Role.TheVariants as roles
+use Rattle.actx_scope_rules.specs.declared.early.EarlyKind.TheVariants as kind
+use Rattle.actx_scope_rules.specs.declared.place.Place.{Place}
+use Rattle.actx_scope_rules.specs.declared.place.Owner.TheVariants as owner
+use Rattle.actx_scope_rules.specs.declared.place.Role.{Role}
+use Rattle.actx_scope_rules.specs.declared.place.Role.TheVariants as roles
 use Rattle.actx_scope.specs.declared.walk.Walk.{Walk}
-use Rattle.actx_scope.specs.Scopes.{Scope, slot_names, opened}
-use Rattle.actx_scope.specs.Contexts.{Context, behind, owned_by}
-use Rattle.actx_scope.specs.Conditions.{when, first}
-use Rattle.actx_scope.specs.Nodes.{Part, mapped, all, binding, or_none, listed, has_some, all_names, any_repeats, rest_names, binding_node, members_marks, member_part_of, is_constructor}
-use Rattle.actx_scope.specs.Statements as statements
-use Rattle.actx_scope.specs.Statements.{Statement, statement, all_slots, in_order}
-use Rattle.actx_scope.specs.Early.{Inside, spread}
-use Rattle.actx_scope.specs.Walks.{with_first, after, around, AddsNode, Adds, Binds, has_any, closed}
-use Rattle.actx_scope.proofs.Lists.{left, done}
-use Rattle.actx_scope.proofs.Names.{slot_names-append}
+use Rattle.actx_scope_rules.specs.Scopes.{Scope, slot_names, opened}
+use Rattle.actx_scope_rules.specs.Contexts.{Context, behind, owned_by}
+use Rattle.actx_scope_rules.specs.Conditions.{when, first}
+use Rattle.actx_scope_rules.specs.Nodes.{Part, mapped, all, binding, or_none, listed, has_some, all_names, any_repeats, rest_names, binding_node, members_marks, member_part_of, is_constructor}
+use Rattle.actx_scope_rules.specs.Statements as statements
+use Rattle.actx_scope_rules.specs.Statements.{Statement, statement, all_slots, in_order}
+use Rattle.actx_scope_rules.specs.Early.{Inside, spread}
+use Rattle.actx_scope.specs.Walks.{with_first, after, around, AddsNode, Adds, Binds}
+use Rattle.actx_scope_rules.specs.Scopes.{has_any, closed}
+use Rattle.actx_scope_rules.proofs.Lists.{left, done}
+use Rattle.actx_scope_rules.proofs.Names.{slot_names-append, slots-left_of_stmts, slots-done_of_stmts}
 use Rattle.actx_scope.proofs.Adds.{follow, put, around-same}
 use Rattle.actx_scope.proofs.Insides.{back-again, closed-opened}
 
@@ -53,13 +54,6 @@ order-left xs i x c h e = ap (λ z. in_order (map statement z) c) (left xs i x h
 
 pub order-done : (xs : List Stmt) (i : ℕ) (c : Context) → length xs ≤ i → in_order (map statement (drop i xs)) c ≡ []
 order-done xs i c h = ap (λ z. in_order (map statement z) c) (done xs i h)
-
-pub slots-left_of_stmts : (xs : List Stmt) (i : ℕ) (x : Stmt) → i < length xs → x ≡ get_or xs i x
-    → all_slots (map statement (drop i xs)) ≡ (statement x).slots ++ all_slots (map statement (drop (i + 1) xs))
-slots-left_of_stmts xs i x h e = ap (λ z. all_slots (map statement z)) (left xs i x h e)
-
-pub slots-done_of_stmts : (xs : List Stmt) (i : ℕ) → length xs ≤ i → all_slots (map statement (drop i xs)) ≡ []
-slots-done_of_stmts xs i h = ap (λ z. all_slots (map statement z)) (done xs i h)
 
 pub declared-left : (xs : List Stmt) (i : ℕ) (x : Stmt) → i < length xs → x ≡ get_or xs i x
     → slot_names (all_slots (map statement (drop i xs))) ≡ slot_names (statement x).slots ++ slot_names (all_slots (map statement (drop (i + 1) xs)))

@@ -2,11 +2,11 @@
 use Rattle.std.proofs.Common.{◌≡◌, ℕ, ◌+◌, List, [], ◌∷◌, ◌++◌, refl, sym, ap, ◌∙◌, append_assoc, Option, Some, None}
 use Rattle.std.specs.Prelude.{slice_get}
 use Rattle.std.proofs.lemmas.List.{append-nil}
-use Rattle.actx_scope.specs.declared.early.Early.{Early}
-use Rattle.actx_scope.specs.declared.early.EarlyKind.{EarlyKind}
+use Rattle.actx_scope_rules.specs.declared.early.Early.{Early}
+use Rattle.actx_scope_rules.specs.declared.early.EarlyKind.{EarlyKind}
 use Rattle.actx_scope.specs.declared.findings.Findings.{Findings}
-use Rattle.actx_scope.specs.Conditions.{first}
-use Rattle.actx_scope.specs.Early.{Node, errors_at, errors_from, uses_at, uses_from}
+use Rattle.actx_scope_rules.specs.Conditions.{first}
+use Rattle.actx_scope_rules.specs.Early.{Node, errors_at, errors_from, uses_at, uses_from}
 use Rattle.actx_scope.specs.Walks.{after, with_node, early_at, or_first, nothing}
 
 abbrev pub head : List Early → Option Early

@@ -1,7 +1,7 @@
 -- What `check` answers.
 use Rattle.std.specs.Prelude.{◌≡◌, ℕ, Bool, List, map, Option, Some}
-use Rattle.actx_scope.specs.declared.early.Early.{Early}
-use Rattle.actx_scope.specs.declared.slot.Use.{Use}
+use Rattle.actx_scope_rules.specs.declared.early.Early.{Early}
+use Rattle.actx_scope_rules.specs.declared.slot.Use.{Use}
 use Rattle.actx_scope.specs.declared.slots.Place.{Place}
 use Rattle.actx_scope.specs.declared.slots.ScopeError.{ScopeError}
 use Rattle.actx_scope.specs.declared.slots.ScopeError.TheVariants as error

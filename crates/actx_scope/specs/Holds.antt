@@ -4,11 +4,11 @@ use Rattle.std.specs.declared.alloc.AllocError.{AllocError}
 use denote.Ref.{MutBor}
 use Rattle.actx_tree.specs.declared.function.Unread.{Unread}
 use Rattle.actx_scope.specs.declared.bodies.Bodies.{Bodies}
-use Rattle.actx_scope.specs.declared.place.Place.{Place}
-use Rattle.actx_scope.specs.declared.place.Role.TheVariants as roles
+use Rattle.actx_scope_rules.specs.declared.place.Place.{Place}
+use Rattle.actx_scope_rules.specs.declared.place.Role.TheVariants as roles
 use Rattle.actx_scope.specs.declared.walk.Walk.{Walk}
-use Rattle.actx_scope.specs.Early.{Inside, nodes_in}
-use Rattle.actx_scope.specs.Nodes.{body_marks}
+use Rattle.actx_scope_rules.specs.Early.{Inside, nodes_in}
+use Rattle.actx_scope_rules.specs.Nodes.{body_marks}
 use Rattle.actx_scope.specs.Walks.{Adds}
 
 -- what is in the bodies among these

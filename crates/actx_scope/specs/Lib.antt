@@ -1,14 +1,4 @@
-pub mod Words
-pub mod Scopes
-pub mod Contexts
-pub mod Conditions
-pub mod Nodes
-pub mod Statements
-pub mod Early
-pub mod Examples
 pub mod Bodies
-pub mod WordSlots
 pub mod Walks
 pub mod Holds
 pub mod Checks
-pub mod Laws

@@ -1,26 +1,26 @@
 -- What a walk over a tree adds to what it has found, part by part.
 use Rattle.std.specs.Prelude.{◌≡◌, ℕ, ◌+◌, Bool, true, false, List, [], ◌∷◌, ◌++◌, Option, Some, None}
 use Rattle.actx_text.specs.declared.units.Units.{Units}
-use Rattle.actx_scope.specs.declared.early.EarlyKind.{EarlyKind}
-use Rattle.actx_scope.specs.declared.early.Early.{Early}
-use Rattle.actx_scope.specs.declared.slot.Found.{Found}
-use Rattle.actx_scope.specs.declared.place.Place.{Place}
-use Rattle.actx_scope.specs.declared.place.Role.{Role}
+use Rattle.actx_scope_rules.specs.declared.early.EarlyKind.{EarlyKind}
+use Rattle.actx_scope_rules.specs.declared.early.Early.{Early}
+use Rattle.actx_scope_rules.specs.declared.slot.Found.{Found}
+use Rattle.actx_scope_rules.specs.declared.place.Place.{Place}
+use Rattle.actx_scope_rules.specs.declared.place.Role.{Role}
 use Rattle.actx_scope.specs.declared.findings.Findings.{Findings}
 use Rattle.actx_scope.specs.declared.walk.Walk.{Walk}
 use Rattle.actx_scope.specs.declared.walk.Outer.{Outer}
-use Rattle.actx_scope.specs.declared.early.EarlyKind.TheVariants as kind
+use Rattle.actx_scope_rules.specs.declared.early.EarlyKind.TheVariants as kind
 use Rattle.actx_tree.specs.declared.function.Flow.{Flow}
-use Rattle.actx_scope.specs.declared.place.Role.TheVariants as roles
-use Rattle.actx_scope.specs.Scopes.{Scope, slots_of, opened}
-use Rattle.actx_scope.specs.Contexts.{Context, behind, in_params, in_body}
-use Rattle.actx_scope.specs.Conditions.{first, when}
-use Rattle.actx_scope.specs.Nodes.{Marks, Part, both, or_none, members_marks, has_some}
+use Rattle.actx_scope_rules.specs.declared.place.Role.TheVariants as roles
+use Rattle.actx_scope_rules.specs.Scopes.{Scope, slots_of, opened, closed}
+use Rattle.actx_scope_rules.specs.Contexts.{Context, behind, in_params, in_body}
+use Rattle.actx_scope_rules.specs.Conditions.{first, when}
+use Rattle.actx_scope_rules.specs.Nodes.{Marks, Part, both, or_none, members_marks, has_some}
 use Rattle.actx_tree.specs.declared.expr.Expr.{Expr}
 use Rattle.actx_tree.specs.declared.stmt.ForInit.{ForInit}
-use Rattle.actx_scope.specs.Statements as statements
-use Rattle.actx_scope.specs.Statements.{Statement, for_init_marks, expr_marks, looped}
-use Rattle.actx_scope.specs.Early.{Node, Inside, spread, uses_at}
+use Rattle.actx_scope_rules.specs.Statements as statements
+use Rattle.actx_scope_rules.specs.Statements.{Statement, for_init_marks, expr_marks, looped}
+use Rattle.actx_scope_rules.specs.Early.{Node, Inside, spread, uses_at}
 
 -- ---- nodes
 
@@ -70,17 +70,6 @@ pub record Binds (inside : Inside) (f : Marks) (names : List Units) (r : Role) (
   pub scopes : new.scopes ≡ old.scopes
   pub earlier : new.earlier ≡ old.earlier ++ names
   pub out : new.out ≡ with_part inside f r p old
-
--- whether a scope has a slot
-abbrev pub has_any : Scope → Bool
-has_any [] = false
-has_any (s ∷ ss) = true
-
--- outside the innermost scope, if one was opened
-abbrev pub closed : Bool → List Scope → List Scope
-closed false scopes = scopes
-closed true [] = []
-closed true (s ∷ ss) = ss
 
 -- ---- functions and classes
 

@@ -1,11 +1,10 @@
 //! The names before a place in its scope.
 
-ghost use Rattle.actx_scope.specs.Scopes.{slot_names};
-ghost use Rattle.actx_scope.specs.Words.{among};
+ghost use Rattle.actx_scope_rules.specs.Scopes.{slot_names};
+ghost use Rattle.actx_scope_rules.specs.Words.{among};
 ghost use Rattle.std.specs.Prelude.{◌≡◌, ◌∷◌, ◌++◌, ◌≤◌, [], length, take, OnOk};
 
-use crate::slot::Slot;
-use crate::words::is_same;
+use actx_scope_rules::{Slot, is_same};
 use actx_text::{Units, copy};
 use sqlite_items::Items;
 use std::alloc::{AllocError, Global};

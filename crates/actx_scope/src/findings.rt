@@ -1,12 +1,11 @@
 //! What a walk over a tree has found so far.
 
 ghost use Rattle.actx_scope.specs.Walks.{with_first, early_at};
-ghost use Rattle.actx_scope.specs.Nodes.{listed};
-ghost use Rattle.actx_scope.specs.Early.{uses_at};
+ghost use Rattle.actx_scope_rules.specs.Nodes.{listed};
+ghost use Rattle.actx_scope_rules.specs.Early.{uses_at};
 ghost use Rattle.std.specs.Prelude.{◌≡◌, ◌++◌, [], None, OnOk};
 
-use crate::early::{Early, EarlyKind};
-use crate::slot::{Found, Use};
+use actx_scope_rules::{Early, EarlyKind, Found, Use};
 use sqlite_items::Items;
 use std::alloc::{AllocError, Global};
 

@@ -1,15 +1,13 @@
 //! Names that stand twice in one scope.
 
-ghost use Rattle.actx_scope.specs.Nodes as nodes;
-ghost use Rattle.actx_scope.specs.Conditions as condition;
-ghost use Rattle.actx_scope.specs.Scopes.{slot_names};
-ghost use Rattle.actx_scope.specs.Statements.{statement};
+ghost use Rattle.actx_scope_rules.specs.Nodes as nodes;
+ghost use Rattle.actx_scope_rules.specs.Conditions as condition;
+ghost use Rattle.actx_scope_rules.specs.Scopes.{slot_names};
+ghost use Rattle.actx_scope_rules.specs.Statements.{statement};
 ghost use Rattle.std.specs.Prelude.{◌≡◌, ◌++◌, ◌||◌, map, OnOk, IfOk, [], None};
 
-use crate::bound::{add_elem, add_params, add_prop, add_stmt};
-use crate::conditions::either;
 use crate::earlier::Earlier;
-use crate::place::Role;
+use actx_scope_rules::{Role, add_elem, add_params, add_prop, add_stmt, either};
 use actx_text::Units;
 use actx_tree::{Elem, Params, Prop, Stmt, Target};
 use sqlite_items::{Boxed, Items};

@@ -1,14 +1,13 @@
 //! The early error of a file, or the slots of the names in it.
 
 ghost use Rattle.actx_scope.specs.Checks.{RefusedFor, place_slot, slot_of, slots_of_uses};
-ghost use Rattle.actx_scope.specs.Early.{early_errors, first_error, name_uses, joined_count, token_count};
+ghost use Rattle.actx_scope_rules.specs.Early.{early_errors, first_error, name_uses, joined_count, token_count};
 ghost use Rattle.actx_scope.specs.declared.slots.ScopeError.TheVariants.{Memory};
 ghost use Rattle.actx_tree.specs.Levels.{stmts_levels};
 ghost use Rattle.std.specs.Prelude.{◌≡◌, ◌+◌, ◌≤◌, [], map, slice_get, IfOk, IfErr};
 
-use crate::early::EarlyKind;
-use crate::slot::Use;
 use crate::walk::walk_tree;
+use actx_scope_rules::{EarlyKind, Use};
 use actx_tree::{BodyTree, Nested, Tree, bodies_of_stmts};
 use sqlite_items::Items;
 use std::alloc::{AllocError, Global};

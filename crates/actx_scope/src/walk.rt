@@ -12,20 +12,17 @@ mod patterns;
 mod statements;
 
 ghost use Rattle.actx_scope.specs.Holds.{Holds, inside_of};
-ghost use Rattle.actx_scope.specs.Nodes as nodes;
-ghost use Rattle.actx_scope.specs.Scopes.{opened};
-ghost use Rattle.actx_scope.specs.Walks.{Adds, AddsNode, has_any, closed};
-ghost use Rattle.actx_scope.specs.declared.place.Role.TheVariants as roles;
+ghost use Rattle.actx_scope_rules.specs.Nodes as nodes;
+ghost use Rattle.actx_scope_rules.specs.Scopes.{opened};
+ghost use Rattle.actx_scope.specs.Walks.{Adds, AddsNode};
+ghost use Rattle.actx_scope_rules.specs.Scopes.{has_any, closed};
+ghost use Rattle.actx_scope_rules.specs.declared.place.Role.TheVariants as roles;
 ghost use Rattle.std.specs.Prelude.{◌≡◌, ◌∷◌, [], true, IfOk, OnOk};
 
 use crate::bodies::Bodies;
-use crate::conditions::name_error;
 use crate::earlier::Earlier;
-use crate::early::EarlyKind;
 use crate::findings::{Findings, add_node};
-use crate::place::{Place, Role};
-use crate::scopes::Scopes;
-use crate::slot::{Found, Slot};
+use actx_scope_rules::{EarlyKind, Found, Place, Role, Scopes, Slot, name_error};
 use actx_text::Units;
 use actx_tree::Unread;
 pub use knot::walk_tree;

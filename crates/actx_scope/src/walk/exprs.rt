@@ -1,16 +1,16 @@
 //! Expressions.
 
 ghost use Rattle.actx_scope.specs.Holds.{Holds, inside_of};
-ghost use Rattle.actx_scope.specs.Nodes as nodes;
+ghost use Rattle.actx_scope_rules.specs.Nodes as nodes;
 ghost use Rattle.actx_scope.specs.Walks.{Adds};
-ghost use Rattle.actx_scope.specs.declared.place.Role.TheVariants as roles;
+ghost use Rattle.actx_scope_rules.specs.declared.place.Role.TheVariants as roles;
 ghost use Rattle.std.specs.Prelude.{◌≡◌, map, OnOk};
 
 use crate::bodies::Bodies;
-use crate::conditions::{arrow_flow_of, has_bad_key, is_member, unary_error, when};
-use crate::early::EarlyKind;
-use crate::place::{Owner, Place, Role};
 use crate::walk::{Inner, Walk};
+use actx_scope_rules::{
+    EarlyKind, Owner, Place, Role, arrow_flow_of, has_bad_key, is_member, unary_error, when,
+};
 use actx_tree::{Argument, Entry, Expr, Key, Operand, Piece, Suffix, Unread};
 use sqlite_items::{Boxed, Items};
 use std::alloc::AllocError;

@@ -1,23 +1,20 @@
 //! Functions, methods and classes.
 
 ghost use Rattle.actx_scope.specs.Holds.{Holds, inside_of};
-ghost use Rattle.actx_scope.specs.Nodes as nodes;
+ghost use Rattle.actx_scope_rules.specs.Nodes as nodes;
 ghost use Rattle.actx_scope.specs.Walks.{Adds, Begins, Ends, called, named, class_inner};
-ghost use Rattle.actx_scope.specs.declared.place.Role.TheVariants as roles;
+ghost use Rattle.actx_scope_rules.specs.declared.place.Role.TheVariants as roles;
 ghost use Rattle.std.specs.Prelude.{◌≡◌, map, true, false, OnOk, IfOk};
 ghost use Rattle.actx_tree.specs.declared.function.Class.{out-Class};
 
 use crate::bodies::Bodies;
-use crate::bound::{add_params, hidden, hidden_of, slots_of_class};
-use crate::conditions::{
-    arrow_flow_of, either, is_constructor_member, is_derived_constructor, is_wrong_constructor,
-    method_error, when,
-};
-use crate::early::EarlyKind;
-use crate::place::{Owner, Place, Role};
 use crate::repeats::{is_redeclared, params_repeat, pass_params};
-use crate::slot::Slot;
 use crate::walk::{Inner, Outer, Walk};
+use actx_scope_rules::{
+    EarlyKind, Owner, Place, Role, Slot, add_params, arrow_flow_of, either, hidden, hidden_of,
+    is_constructor_member, is_derived_constructor, is_wrong_constructor, method_error,
+    slots_of_class, when,
+};
 use actx_tree::{Class, Expr, Flow, Function, Member, Method, Params, Unread};
 use sqlite_items::Items;
 use std::alloc::AllocError;

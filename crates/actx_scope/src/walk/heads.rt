@@ -1,15 +1,14 @@
 //! What lies in the heads of statements.
 
 ghost use Rattle.actx_scope.specs.Holds.{Holds, inside_of};
-ghost use Rattle.actx_scope.specs.Statements as statements;
+ghost use Rattle.actx_scope_rules.specs.Statements as statements;
 ghost use Rattle.actx_scope.specs.Walks.{Adds};
-ghost use Rattle.actx_scope.specs.declared.place.Role.TheVariants as roles;
+ghost use Rattle.actx_scope_rules.specs.declared.place.Role.TheVariants as roles;
 ghost use Rattle.std.specs.Prelude.{◌≡◌, OnOk};
 
 use crate::bodies::Bodies;
-use crate::bound::slots_of_target;
-use crate::place::{Place, Role};
 use crate::walk::{Inner, Walk};
+use actx_scope_rules::{Place, Role, slots_of_target};
 use actx_tree::{Expr, ForInit, Target, Unread};
 use std::alloc::AllocError;
 

@@ -1,19 +1,18 @@
 //! The bodies of functions in the bodies of functions.
 
-ghost use Rattle.actx_scope.specs.Early.{tree_nodes, token_count};
+ghost use Rattle.actx_scope_rules.specs.Early.{tree_nodes, token_count};
 ghost use Rattle.actx_scope.specs.Holds.{inside_of};
-ghost use Rattle.actx_scope.specs.Nodes as nodes;
-ghost use Rattle.actx_scope.specs.Statements as statements;
+ghost use Rattle.actx_scope_rules.specs.Nodes as nodes;
+ghost use Rattle.actx_scope_rules.specs.Statements as statements;
 ghost use Rattle.actx_scope.specs.Walks.{Adds, after, nothing};
-ghost use Rattle.actx_scope.specs.declared.place.Role.TheVariants as roles;
+ghost use Rattle.actx_scope_rules.specs.declared.place.Role.TheVariants as roles;
 ghost use Rattle.std.specs.Prelude.{◌≡◌, IfOk, OnOk, map};
 
 use crate::bodies::{Bodies, body_of};
 use crate::earlier::Earlier;
 use crate::findings::{self, Findings};
-use crate::place::{Place, file_place};
-use crate::scopes::Scopes;
 use crate::walk::{Inner, Walk};
+use actx_scope_rules::{Place, Scopes, file_place};
 use actx_tree::{Tree, Unread};
 use std::alloc::{AllocError, Global};
 

@@ -1,17 +1,15 @@
 //! Patterns and parameters.
 
 ghost use Rattle.actx_scope.specs.Holds.{Holds, inside_of};
-ghost use Rattle.actx_scope.specs.Nodes as nodes;
+ghost use Rattle.actx_scope_rules.specs.Nodes as nodes;
 ghost use Rattle.actx_scope.specs.Walks.{Adds, Binds};
-ghost use Rattle.actx_scope.specs.declared.place.Role.TheVariants as roles;
+ghost use Rattle.actx_scope_rules.specs.declared.place.Role.TheVariants as roles;
 ghost use Rattle.std.specs.Prelude.{◌≡◌, ◌++◌, map, OnOk};
 
 use crate::bodies::Bodies;
-use crate::conditions::when;
-use crate::early::EarlyKind;
-use crate::place::Place;
 use crate::repeats::{elems_repeat, pass_elem, pass_prop, props_repeat};
 use crate::walk::{Inner, Walk};
+use actx_scope_rules::{EarlyKind, Place, when};
 use actx_text::Units;
 use actx_tree::{Elem, Params, Prop, Target, Unread};
 use sqlite_items::Boxed;

@@ -1,20 +1,19 @@
 //! Statements.
 
 ghost use Rattle.actx_scope.specs.Holds.{Holds, inside_of};
-ghost use Rattle.actx_scope.specs.Nodes as nodes;
-ghost use Rattle.actx_scope.specs.Statements as statements;
+ghost use Rattle.actx_scope_rules.specs.Nodes as nodes;
+ghost use Rattle.actx_scope_rules.specs.Statements as statements;
 ghost use Rattle.actx_scope.specs.Walks.{Adds, Binds, for_inner};
-ghost use Rattle.actx_scope.specs.declared.place.Role.TheVariants as roles;
+ghost use Rattle.actx_scope_rules.specs.declared.place.Role.TheVariants as roles;
 ghost use Rattle.std.specs.Prelude.{◌≡◌, map, OnOk};
-ghost use Rattle.actx_scope.specs.Scopes.{slot_names};
+ghost use Rattle.actx_scope_rules.specs.Scopes.{slot_names};
 
 use crate::bodies::Bodies;
-use crate::bound::{slots_of_caught, slots_of_first, slots_of_items, slots_of_target};
-use crate::conditions::when;
-use crate::early::EarlyKind;
-use crate::place::{Place, Role};
 use crate::repeats::pass_stmt;
 use crate::walk::{Inner, Walk};
+use actx_scope_rules::{
+    EarlyKind, Place, Role, slots_of_caught, slots_of_first, slots_of_items, slots_of_target, when,
+};
 use actx_tree::{Catch, Expr, ForInit, Stmt, Target, Unread};
 use sqlite_items::{Boxed, Items};
 use std::alloc::AllocError;

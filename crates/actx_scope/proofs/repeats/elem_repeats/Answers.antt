@@ -1,4 +1,4 @@
-use Rattle.actx_scope.proofs.PartEquations.{elem_part-fields}
+use Rattle.actx_scope_rules.proofs.PartEquations.{elem_part-fields}
 use Rattle.actx_scope.proofs.repeats.elem_repeats.Goals as goal
 
 pub returns : goal.returns

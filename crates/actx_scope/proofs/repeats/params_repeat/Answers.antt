@@ -1,5 +1,5 @@
-use Rattle.actx_scope.proofs.Names.{any_repeats-append}
-use Rattle.actx_scope.proofs.PartEquations.{params_part-fields}
+use Rattle.actx_scope_rules.proofs.Names.{any_repeats-append}
+use Rattle.actx_scope_rules.proofs.PartEquations.{params_part-fields}
 use Rattle.actx_scope.proofs.repeats.params_repeat.Goals as goal
 
 pub returns : goal.returns

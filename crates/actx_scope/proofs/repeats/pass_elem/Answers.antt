@@ -1,6 +1,6 @@
 use Rattle.std.proofs.Common.{false}
-use Rattle.actx_scope.specs.Nodes as nodes
-use Rattle.actx_scope.proofs.Names.{slot_names-of}
+use Rattle.actx_scope_rules.specs.Nodes as nodes
+use Rattle.actx_scope_rules.proofs.Names.{slot_names-of}
 use Rattle.actx_scope.proofs.repeats.pass_elem.Goals as goal
 
 pub returns : goal.returns

@@ -1,7 +1,7 @@
 use Rattle.std.proofs.Common.{◌<◌, length, arith, refl}
-use Rattle.actx_scope.specs.Nodes.{elem_part}
-use Rattle.actx_scope.proofs.Lists.{more, finished}
-use Rattle.actx_scope.proofs.Names.{names-left, names-done, repeats_more, repeats_done}
+use Rattle.actx_scope_rules.specs.Nodes.{elem_part}
+use Rattle.actx_scope_rules.proofs.Lists.{more, finished}
+use Rattle.actx_scope_rules.proofs.Names.{names-left, names-done, repeats_more, repeats_done}
 use Rattle.actx_scope.proofs.repeats.pass_elems.Goals as goal
 
 pub loop-elem-init : goal.loop-elem-init

@@ -1,5 +1,5 @@
 use Rattle.std.proofs.Common.{◌≡◌, ◌++◌, ◌||◌, map, drop}
-use Rattle.actx_scope.specs.Nodes.{all_names, any_repeats, elem_part}
+use Rattle.actx_scope_rules.specs.Nodes.{all_names, any_repeats, elem_part}
 use Rattle.actx_scope.proofs.repeats.pass_elems.Given as goal
 
 abbrev pub invariant-loop-elem : goal.invariant-loop-elem

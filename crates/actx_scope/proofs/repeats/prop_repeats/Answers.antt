@@ -1,4 +1,4 @@
-use Rattle.actx_scope.proofs.PartEquations.{prop_part-Shorthand, prop_part-Pair}
+use Rattle.actx_scope_rules.proofs.PartEquations.{prop_part-Shorthand, prop_part-Pair}
 use Rattle.actx_scope.proofs.repeats.prop_repeats.Goals as goal
 
 pub returns-in-Shorthand : goal.returns-in-Shorthand

@@ -1,4 +1,4 @@
-use Rattle.actx_scope.proofs.Names.{any_repeats-append}
+use Rattle.actx_scope_rules.proofs.Names.{any_repeats-append}
 use Rattle.actx_scope.proofs.Insides.{back-again}
 use Rattle.actx_scope.proofs.repeats.props_repeat.Goals as goal
 

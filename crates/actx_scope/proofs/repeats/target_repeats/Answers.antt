@@ -1,5 +1,5 @@
 use Rattle.std.proofs.Common.{refl}
-use Rattle.actx_scope.proofs.PartEquations.{target_part-Name, target_part-Object, target_part-Array}
+use Rattle.actx_scope_rules.proofs.PartEquations.{target_part-Name, target_part-Object, target_part-Array}
 use Rattle.actx_scope.proofs.repeats.target_repeats.Goals as goal
 
 pub returns-in-Name : goal.returns-in-Name

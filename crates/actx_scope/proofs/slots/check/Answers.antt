@@ -1,6 +1,6 @@
 use Rattle.std.proofs.Common.{◌∙◌, ap}
 use Rattle.actx_scope.specs.Checks.{slots_of_uses}
-use Rattle.actx_scope.specs.Early.{tree_nodes}
+use Rattle.actx_scope_rules.specs.Early.{tree_nodes}
 use Rattle.actx_scope.proofs.Totals as total
 use Rattle.actx_scope.proofs.slots.check.Goals as goal
 

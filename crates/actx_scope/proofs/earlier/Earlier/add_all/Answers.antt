@@ -1,6 +1,6 @@
 use Rattle.std.proofs.Common.{arith, refl}
-use Rattle.actx_scope.proofs.Lists.{more, finished}
-use Rattle.actx_scope.proofs.Names.{slot_names-left, slot_names-done}
+use Rattle.actx_scope_rules.proofs.Lists.{more, finished}
+use Rattle.actx_scope_rules.proofs.Names.{slot_names-left, slot_names-done}
 use Rattle.actx_scope.proofs.earlier.Earlier.add_all.Goals as goal
 
 pub returns : goal.returns

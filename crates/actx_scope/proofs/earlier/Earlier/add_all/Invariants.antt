@@ -1,5 +1,5 @@
 use Rattle.std.proofs.Common.{◌≡◌, ◌++◌, drop}
-use Rattle.actx_scope.specs.Scopes.{slot_names}
+use Rattle.actx_scope_rules.specs.Scopes.{slot_names}
 use Rattle.actx_scope.proofs.earlier.Earlier.add_all.Given as goal
 
 abbrev pub invariant-loop-slot : goal.invariant-loop-slot

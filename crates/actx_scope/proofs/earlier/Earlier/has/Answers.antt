@@ -1,5 +1,5 @@
 use Rattle.std.proofs.Common.{◌≡◌, arith, refl}
-use Rattle.actx_scope.proofs.Names.{among_met, among_more, among_done}
+use Rattle.actx_scope_rules.proofs.Names.{among_met, among_more, among_done}
 use Rattle.actx_scope.proofs.earlier.Earlier.has.Goals as goal
 
 pub loop-other-init : goal.loop-other-init

@@ -1,5 +1,5 @@
 use Rattle.std.proofs.Common.{◌≡◌, drop}
-use Rattle.actx_scope.specs.Words.{among}
+use Rattle.actx_scope_rules.specs.Words.{among}
 use Rattle.actx_scope.proofs.earlier.Earlier.has.Given as goal
 
 abbrev pub invariant-loop-other : goal.invariant-loop-other

@@ -1,15 +1,15 @@
 -- What each function of the walk over statements adds is what the statement has.
 use Rattle.std.proofs.Common.{refl, ◌+◌, ◌<◌, ◌≤◌, length, map, drop, arith, Some, None}
 use Rattle.actx_tree.specs.declared.stmt.Catch.{out-Catch}
-use Rattle.actx_scope.specs.declared.early.EarlyKind.TheVariants as kind
-use Rattle.actx_scope.specs.declared.place.Role.TheVariants as roles
-use Rattle.actx_scope.specs.Nodes as nodes
-use Rattle.actx_scope.specs.Nodes.{both}
-use Rattle.actx_scope.specs.Scopes.{slot_names}
-use Rattle.actx_scope.specs.Statements as statements
-use Rattle.actx_scope.specs.Conditions as condition
+use Rattle.actx_scope_rules.specs.declared.early.EarlyKind.TheVariants as kind
+use Rattle.actx_scope_rules.specs.declared.place.Role.TheVariants as roles
+use Rattle.actx_scope_rules.specs.Nodes as nodes
+use Rattle.actx_scope_rules.specs.Nodes.{both}
+use Rattle.actx_scope_rules.specs.Scopes.{slot_names}
+use Rattle.actx_scope_rules.specs.Statements as statements
+use Rattle.actx_scope_rules.specs.Conditions as condition
 use Rattle.actx_scope.specs.Walks.{for_inner}
-use Rattle.actx_scope.proofs.StatementEquations as stmt
+use Rattle.actx_scope_rules.proofs.StatementEquations as stmt
 use Rattle.actx_scope.proofs.Adds.{adds-none, adds-both, adds-node, leaf_ok, role_ok, turn_ok, bound-all, bound-less, bound-nothing}
 use Rattle.actx_scope.proofs.Insides.{scoped_adds, scoped_binds}
 use Rattle.actx_scope.proofs.Patterns.{order-left, order-done, declared-left, declared-done}

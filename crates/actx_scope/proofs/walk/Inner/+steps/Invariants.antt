@@ -1,9 +1,9 @@
 -- What the loop keeps: what is left, behind the names so far, gives the whole.
 use Rattle.std.proofs.Common.{map, drop}
-use Rattle.actx_scope.specs.declared.place.Role.TheVariants as roles
+use Rattle.actx_scope_rules.specs.declared.place.Role.TheVariants as roles
 use Rattle.actx_scope.specs.Holds.{inside_of}
-use Rattle.actx_scope.specs.Scopes.{slot_names}
-use Rattle.actx_scope.specs.Statements as statements
+use Rattle.actx_scope_rules.specs.Scopes.{slot_names}
+use Rattle.actx_scope_rules.specs.Statements as statements
 use Rattle.actx_scope.proofs.Adds.{OwesBound}
 use Rattle.actx_scope.proofs.walk.Inner.+steps.Given as goal
 

@@ -3,17 +3,17 @@ use Rattle.std.proofs.Common.{refl, ◌+◌, ◌<◌, ◌≤◌, ◌||◌, ◌++
 use Rattle.actx_tree.specs.declared.function.Function.{out-Function}
 use Rattle.actx_tree.specs.declared.function.Method.{out-Method}
 use Rattle.actx_tree.specs.declared.function.Class.{out-Class}
-use Rattle.actx_scope.specs.declared.early.EarlyKind.TheVariants as kind
-use Rattle.actx_scope.specs.declared.place.Owner.TheVariants as owner
-use Rattle.actx_scope.specs.declared.place.Role.TheVariants as roles
-use Rattle.actx_scope.specs.Nodes as nodes
-use Rattle.actx_scope.specs.Nodes.{both}
-use Rattle.actx_scope.specs.Scopes.{hidden_slots}
-use Rattle.actx_scope.specs.Contexts.{arrow_place, function_place, method_place, owned_place, own_name, named_scope}
-use Rattle.actx_scope.specs.Conditions as condition
+use Rattle.actx_scope_rules.specs.declared.early.EarlyKind.TheVariants as kind
+use Rattle.actx_scope_rules.specs.declared.place.Owner.TheVariants as owner
+use Rattle.actx_scope_rules.specs.declared.place.Role.TheVariants as roles
+use Rattle.actx_scope_rules.specs.Nodes as nodes
+use Rattle.actx_scope_rules.specs.Nodes.{both}
+use Rattle.actx_scope_rules.specs.Scopes.{hidden_slots}
+use Rattle.actx_scope_rules.specs.Contexts.{arrow_place, function_place, method_place, owned_place, own_name, named_scope}
+use Rattle.actx_scope_rules.specs.Conditions as condition
 use Rattle.actx_scope.specs.Walks.{called, class_inner}
-use Rattle.actx_scope.proofs.PartEquations as part
-use Rattle.actx_scope.proofs.Names.{names-left, names-done}
+use Rattle.actx_scope_rules.proofs.PartEquations as part
+use Rattle.actx_scope_rules.proofs.Names.{names-left, names-done}
 use Rattle.actx_scope.proofs.Adds.{adds-none, adds-both, adds-behind_node, adds-node, leaf_ok, any_role_ok, adds-as, adds-role, adds-owner, owes-all, owes-less, owes-nothing, bound-all, bound-less, bound-nothing}
 use Rattle.actx_scope.proofs.Insides.{outer_then, arrow_adds, begins, ends, called_adds, class_adds}
 use Rattle.actx_scope.proofs.Patterns.{all-left, all-done, binding-left, binding-done, members-left, members-done, has_some-mapped, pattern_adds, params_adds}

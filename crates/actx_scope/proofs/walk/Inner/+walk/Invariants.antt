@@ -1,8 +1,8 @@
 -- What the loops keep: what is left, added to what was found, gives the whole.
 use Rattle.std.proofs.Common.{map, drop, false}
-use Rattle.actx_scope.specs.declared.place.Role.TheVariants as roles
+use Rattle.actx_scope_rules.specs.declared.place.Role.TheVariants as roles
 use Rattle.actx_scope.specs.Holds.{inside_of}
-use Rattle.actx_scope.specs.Nodes as nodes
+use Rattle.actx_scope_rules.specs.Nodes as nodes
 use Rattle.actx_scope.proofs.Adds.{Owes, OwesBound}
 use Rattle.actx_scope.proofs.walk.Inner.+walk.Given as goal
 

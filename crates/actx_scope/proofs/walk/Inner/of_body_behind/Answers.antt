@@ -1,5 +1,5 @@
 use Rattle.std.proofs.Common.{refl}
-use Rattle.actx_scope.specs.Nodes as nodes
+use Rattle.actx_scope_rules.specs.Nodes as nodes
 use Rattle.actx_scope.proofs.Insides.{behind_adds}
 use Rattle.actx_scope.proofs.walk.Inner.of_body_behind.Goals as goal
 

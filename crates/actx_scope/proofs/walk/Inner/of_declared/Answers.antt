@@ -1,5 +1,5 @@
 use Rattle.std.proofs.Common.{refl, map}
-use Rattle.actx_scope.specs.Nodes as nodes
+use Rattle.actx_scope_rules.specs.Nodes as nodes
 use Rattle.actx_scope.proofs.Patterns.{declared_adds}
 use Rattle.actx_scope.proofs.walk.Inner.of_declared.Goals as goal
 

@@ -1,4 +1,4 @@
-use Rattle.actx_scope.specs.Statements as statements
+use Rattle.actx_scope_rules.specs.Statements as statements
 use Rattle.actx_scope.proofs.Insides.{scoped_adds}
 use Rattle.actx_scope.proofs.walk.Inner.of_for_target.Goals as goal
 

@@ -1,0 +1,10 @@
+pub mod Words
+pub mod Scopes
+pub mod Contexts
+pub mod Conditions
+pub mod Nodes
+pub mod Statements
+pub mod Early
+pub mod Examples
+pub mod WordSlots
+pub mod Laws

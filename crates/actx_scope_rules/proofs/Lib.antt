@@ -7,3 +7,4 @@ pub mod Units
 pub mod Lists
 pub mod Names
 pub mod Founds
+pub mod Tables

@@ -6,5 +6,6 @@ pub mod Nodes
 pub mod Statements
 pub mod Early
 pub mod Examples
+pub mod Tables
 pub mod WordSlots
 pub mod Laws

@@ -12,6 +12,7 @@ mod place;
 mod scopes;
 mod slot;
 mod table;
+mod word;
 mod words;
 
 pub use bound::{

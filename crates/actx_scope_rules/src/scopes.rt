@@ -7,6 +7,7 @@ ghost use Rattle.std.specs.Prelude.{◌≡◌, ◌∷◌, [], reverse, IfOk, OnO
 use crate::globals::global_slot;
 use crate::slot::{Found, Slot};
 use crate::table::Table;
+use crate::word::Word;
 use actx_text::Units;
 use sqlite_items::Items;
 use std::alloc::{AllocError, Global};
@@ -39,22 +40,22 @@ impl Scopes {
     }
 
     /// Goes into a scope of these slots.
-    pub fn push(&mut self, slots: Items<Slot>) -> Result<(), AllocError>
+    pub fn push(&mut self, alloc: Global, slots: Items<Slot>) -> Result<(), AllocError>
         ensures { OnOk result (self.new ≡ slots ∷ self.old) }
     {
-        let table = Table::new(slots)?;
+        let table = Table::new(alloc, slots)?;
         self.tables.push(table)
     }
 
     /// Goes into a scope of these slots, if there are any; whether it did.
-    pub fn open(&mut self, slots: Items<Slot>) -> Result<bool, AllocError>
+    pub fn open(&mut self, alloc: Global, slots: Items<Slot>) -> Result<bool, AllocError>
         ensures scopes { OnOk result (self.new ≡ opened slots self.old) }
         ensures whether { IfOk result (λ b. b ≡ has_any slots) }
     {
         if slots.is_empty() {
             return Ok(false);
         }
-        self.push(slots)?;
+        self.push(alloc, slots)?;
         Ok(true)
     }
 
@@ -67,22 +68,25 @@ impl Scopes {
         }
     }
 
-    /// What a name means here, if it means anything.
-    pub fn find(&self, name: &Units) -> Option<Found>
-        ensures { result ≡ found self.now name.now }
+    /// What a name means here, if it means anything. It takes the same time for scopes of any size.
+    pub fn find(&self, alloc: Global, name: &Units) -> Result<Option<Found>, AllocError>
+        ensures { IfOk result (λ x. x ≡ found self.now name.now) }
     {
-        find_in(self.tables.as_slice(), name)
+        let word = Word::new(alloc, name)?;
+        Ok(find_in(self.tables.as_slice(), &word, name))
     }
 }
 
-/// What a name means in the scopes of these tables, which come from the outside in.
-fn find_in(tables: &[Table], name: &Units) -> Option<Found>
+/// What a name means in the scopes of these tables, which come from the outside in; the word is the
+/// name as a key.
+fn find_in(tables: &[Table], word: &Word, name: &Units) -> Option<Found>
+    requires { word.now ≡ name.now }
     ensures { result ≡ found (reverse tables.now) name.now }
 {
     let count = tables.len();
     for hops in 0..count {
         let table = &tables[count - 1 - hops];
-        if let Some((slot, is_fixed)) = table.last(name) {
+        if let Some((slot, is_fixed)) = table.last(word) {
             return Some(Found {
                 hops,
                 slot,

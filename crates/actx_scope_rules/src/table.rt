@@ -1,42 +1,56 @@
 //! The slots of one scope.
 
 ghost use Rattle.actx_scope_rules.specs.Scopes.{last_slot, or_else};
-ghost use Rattle.std.specs.Prelude.{◌≡◌, if◌then◌else◌, Some, None, IfOk};
+ghost use Rattle.actx_scope_rules.specs.Tables.{at_name};
+ghost use Rattle.actx_scope_rules.specs.Words.{is_word};
+ghost use Rattle.actx_text.specs.declared.units.Units.{Units};
+ghost use Rattle.std.specs.Prelude.{◌≡◌, if◌then◌else◌, Some, None, IfOk, OnOk};
 
 use crate::slot::Slot;
-use crate::words::has_name;
-use actx_text::Units;
+use crate::word::Word;
 use sqlite_items::Items;
-use std::alloc::AllocError;
+use std::alloc::{AllocError, Global};
+use std::collections::HashMap;
 use std::marker::Model;
 
-/// The slots of a scope, where a name is found. Contracts see the list of slots.
+/// The slots of a scope, where a name is found in the same time however many there are. Contracts see
+/// the list of slots.
 #[derive(Drop)]
 pub struct Table {
     slots: Items<Slot>,
+    // of each name the last slot, and whether it is fixed
+    last: HashMap<Word, (usize, bool)>,
 }
 
 impl Model for Table {
     ghost use Rattle.actx_scope_rules.specs.Scopes.{Scope};
+    ghost use Rattle.actx_scope_rules.specs.Tables.{IsLast};
 
     ghost Value = { Scope };
 
     ghost view = { λ t. t.slots };
+
+    ghost invariant = { λ t. IsLast t.last t.slots };
 }
 
 impl Table {
     /// The scope of these slots.
-    pub fn new(slots: Items<Slot>) -> Result<Table, AllocError>
+    pub fn new(alloc: Global, slots: Items<Slot>) -> Result<Table, AllocError>
         ensures { IfOk result (λ t. t ≡ slots) }
     {
-        Ok(Table { slots })
+        let last = last_of(alloc, slots.as_slice())?;
+        Ok(Table { slots, last })
     }
 
     /// The last slot of a name, and whether it is fixed.
-    pub fn last(&self, name: &Units) -> Option<(usize, bool)>
+    pub fn last(&self, name: &Word) -> Option<(usize, bool)>
         ensures { result ≡ last_slot name.now self.now 0 }
     {
-        last_of(self.slots.as_slice(), name)
+        let _slots = self.slots.len();
+        match self.last.get(name) {
+            Some(last) => Some(*last),
+            None => None,
+        }
     }
 }
 
@@ -52,12 +66,32 @@ pub fn here_or(
     if is_here { Some((i, is_fixed)) } else { other }
 }
 
-fn last_of(slots: &[Slot], name: &Units) -> Option<(usize, bool)>
-    ensures { result ≡ last_slot name.now slots.now 0 }
+/// Notes the slot of this number at its name.
+fn note(
+    alloc: Global,
+    slot: &Slot,
+    i: usize,
+    last: &mut HashMap<Word, (usize, bool)>,
+) -> Result<(), AllocError>
+    ensures { OnOk result ((name : Units) → at_name last.new name ≡ or_else (if is_word name slot.now.name then Some (i, slot.now.is_fixed) else None) (at_name last.old name)) }
 {
-    let mut last = None;
-    for (i, slot) in slots.iter().enumerate() {
-        last = here_or(has_name(slot, name), i, slot.is_fixed, last);
+    match &slot.name {
+        Some(name) => {
+            let word = Word::new(alloc, name)?;
+            last.insert(word, (i, slot.is_fixed))?;
+            Ok(())
+        }
+        None => Ok(()),
     }
-    last
+}
+
+/// Of each name among these slots the last slot.
+fn last_of(alloc: Global, slots: &[Slot]) -> Result<HashMap<Word, (usize, bool)>, AllocError>
+    ensures { IfOk result (λ m. (name : Units) → at_name m name ≡ last_slot name slots.now 0) }
+{
+    let mut last = HashMap::new(alloc);
+    for (i, slot) in slots.iter().enumerate() {
+        note(alloc, slot, i, &mut last)?;
+    }
+    Ok(last)
 }

@@ -1,9 +1,8 @@
 //! Words that early errors speak of.
 
-ghost use Rattle.actx_scope_rules.specs.Words.{same_units, is_word, constructor_word, proto_word};
+ghost use Rattle.actx_scope_rules.specs.Words.{same_units, constructor_word, proto_word};
 ghost use Rattle.std.specs.Prelude.{◌≡◌};
 
-use crate::slot::Slot;
 use actx_text::{Units, as_units};
 
 /// The units of `constructor`.
@@ -31,14 +30,4 @@ pub fn is_proto(word: &Units) -> bool
     ensures { result ≡ same_units proto_word word.now }
 {
     PROTO.as_slice() == as_units(word)
-}
-
-/// Whether a slot has this name.
-pub fn has_name(slot: &Slot, name: &Units) -> bool
-    ensures { result ≡ is_word name.now slot.now.name }
-{
-    match &slot.name {
-        Some(other) => is_same(name, other),
-        None => false,
-    }
 }

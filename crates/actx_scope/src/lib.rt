@@ -4,7 +4,6 @@
 #![tactic(auto)]
 
 mod bodies;
-mod earlier;
 mod findings;
 mod repeats;
 mod slots;

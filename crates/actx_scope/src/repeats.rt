@@ -6,8 +6,7 @@ ghost use Rattle.actx_scope_rules.specs.Scopes.{slot_names};
 ghost use Rattle.actx_scope_rules.specs.Statements.{statement};
 ghost use Rattle.std.specs.Prelude.{◌≡◌, ◌++◌, ◌||◌, map, OnOk, IfOk, [], None};
 
-use crate::earlier::Earlier;
-use actx_scope_rules::{Role, add_elem, add_params, add_prop, add_stmt, either};
+use actx_scope_rules::{Earlier, Role, add_elem, add_params, add_prop, add_stmt, either};
 use actx_text::Units;
 use actx_tree::{Elem, Params, Prop, Stmt, Target};
 use sqlite_items::{Boxed, Items};

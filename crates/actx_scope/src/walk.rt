@@ -20,9 +20,8 @@ ghost use Rattle.actx_scope_rules.specs.declared.place.Role.TheVariants as roles
 ghost use Rattle.std.specs.Prelude.{◌≡◌, ◌∷◌, [], true, IfOk, OnOk};
 
 use crate::bodies::Bodies;
-use crate::earlier::Earlier;
 use crate::findings::{Findings, add_node};
-use actx_scope_rules::{EarlyKind, Found, Place, Role, Scopes, Slot, name_error};
+use actx_scope_rules::{Earlier, EarlyKind, Found, Place, Role, Scopes, Slot, name_error};
 use actx_text::Units;
 use actx_tree::Unread;
 pub use knot::walk_tree;
@@ -63,7 +62,7 @@ impl Walk {
         ensures inside { OnOk result (self.new ≡ record { scopes = opened slots self.old.scopes; earlier = []; out = self.old.out }) }
         ensures outer { IfOk result (λ o. o ≡ record { earlier = self.old.earlier; opened = has_any slots }) }
     {
-        let opened = self.scopes.open(slots)?;
+        let opened = self.scopes.open(alloc, slots)?;
         let earlier = mem::replace(&mut self.earlier, Earlier::new(alloc));
         Ok(Outer { earlier, opened })
     }
@@ -73,7 +72,7 @@ impl Walk {
         ensures inside { OnOk result (self.new ≡ record { scopes = slots ∷ self.old.scopes; earlier = []; out = self.old.out }) }
         ensures outer { IfOk result (λ o. o ≡ record { earlier = self.old.earlier; opened = true }) }
     {
-        self.scopes.push(slots)?;
+        self.scopes.push(alloc, slots)?;
         let earlier = mem::replace(&mut self.earlier, Earlier::new(alloc));
         Ok(Outer {
             earlier,

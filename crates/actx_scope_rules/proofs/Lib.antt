@@ -8,3 +8,4 @@ pub mod Lists
 pub mod Names
 pub mod Founds
 pub mod Tables
+pub mod Firsts

@@ -1,6 +1,6 @@
 -- What `==` says of two lists of units.
-use Rattle.std.proofs.Common.{◌≡◌, ℕ, refl, ap, ◌∙◌, Bool, ◌&&◌, [], ◌∷◌, arith}
-use Rattle.std.proofs.lemmas.Bool.Decides.{nat_tests}
+use Rattle.std.proofs.Common.{◌≡◌, refl, ap, Bool, true, false, ◌&&◌, [], ◌∷◌}
+use Rattle.std.proofs.lemmas.Bool.{false≢true, eqb-true}
 use lib.Dec.{eqb}
 use lib.Pointwise.{pointwise}
 use Rattle.actx_text.specs.declared.units.Units.{Units}
@@ -15,12 +15,13 @@ pointwise-same (c ∷ a) (d ∷ b) = ap (λ (z : Bool). eqb c d && z) (pointwise
 
 -- ---- the same units are the same list
 
-eqb-sym : (c d : ℕ) → eqb c d ≡ eqb d c
-eqb-sym c d = grind (arith, nat_tests)
+and_both : (a b : Bool) → (a && b) ≡ true → (a ≡ true) × (b ≡ true)
+and_both true b e = (refl, e)
+and_both false b e = absurd (false≢true e)
 
-pub same_units-sym : (a b : Units) → same_units a b ≡ same_units b a
+pub same_units-true : (a b : Units) → same_units a b ≡ true → a ≡ b
 unfolding same_units
-same_units-sym [] [] = refl
-same_units-sym [] (d ∷ b) = refl
-same_units-sym (c ∷ a) [] = refl
-same_units-sym (c ∷ a) (d ∷ b) = ap (λ (z : Bool). z && same_units a b) (eqb-sym c d) ∙ ap (λ (z : Bool). eqb d c && z) (same_units-sym a b)
+same_units-true [] [] e = refl
+same_units-true [] (d ∷ b) e = absurd (false≢true e)
+same_units-true (c ∷ a) [] e = absurd (false≢true e)
+same_units-true (c ∷ a) (d ∷ b) e = let h = and_both (eqb c d) (same_units a b) e in let p : c ≡ d = eqb-true c d h.0 in let q : a ≡ b = same_units-true a b h.1 in (cc)

@@ -5,6 +5,7 @@
 
 mod bound;
 mod conditions;
+mod earlier;
 mod early;
 mod globals;
 mod laws;
@@ -12,7 +13,6 @@ mod place;
 mod scopes;
 mod slot;
 mod table;
-mod word;
 mod words;
 
 pub use bound::{
@@ -24,6 +24,7 @@ pub use conditions::{
     is_derived_constructor, is_member, is_wrong_constructor, method_error, name_error, unary_error,
     when,
 };
+pub use earlier::Earlier;
 pub use early::{Early, EarlyKind};
 pub use laws::{errors_in_order, forms_of_files, names_of_files, places_of_words};
 pub use place::{Owner, Place, Role, file_place};

@@ -7,7 +7,6 @@ ghost use Rattle.std.specs.Prelude.{◌≡◌, ◌∷◌, [], reverse, IfOk, OnO
 use crate::globals::global_slot;
 use crate::slot::{Found, Slot};
 use crate::table::Table;
-use crate::word::Word;
 use actx_text::Units;
 use sqlite_items::Items;
 use std::alloc::{AllocError, Global};
@@ -69,24 +68,21 @@ impl Scopes {
     }
 
     /// What a name means here, if it means anything. It takes the same time for scopes of any size.
-    pub fn find(&self, alloc: Global, name: &Units) -> Result<Option<Found>, AllocError>
-        ensures { IfOk result (λ x. x ≡ found self.now name.now) }
+    pub fn find(&self, name: &Units) -> Option<Found>
+        ensures { result ≡ found self.now name.now }
     {
-        let word = Word::new(alloc, name)?;
-        Ok(find_in(self.tables.as_slice(), &word, name))
+        find_in(self.tables.as_slice(), name)
     }
 }
 
-/// What a name means in the scopes of these tables, which come from the outside in; the word is the
-/// name as a key.
-fn find_in(tables: &[Table], word: &Word, name: &Units) -> Option<Found>
-    requires { word.now ≡ name.now }
+/// What a name means in the scopes of these tables, which come from the outside in.
+fn find_in(tables: &[Table], name: &Units) -> Option<Found>
     ensures { result ≡ found (reverse tables.now) name.now }
 {
     let count = tables.len();
     for hops in 0..count {
         let table = &tables[count - 1 - hops];
-        if let Some((slot, is_fixed)) = table.last(word) {
+        if let Some((slot, is_fixed)) = table.last(name) {
             return Some(Found {
                 hops,
                 slot,

@@ -3,14 +3,14 @@
 ghost use Rattle.actx_scope_rules.specs.Scopes.{last_slot, or_else};
 ghost use Rattle.actx_scope_rules.specs.Tables.{at_name};
 ghost use Rattle.actx_scope_rules.specs.Words.{is_word};
-ghost use Rattle.actx_text.specs.declared.units.Units.{Units};
+ghost use Rattle.actx_text.specs.declared.units.Units as texts;
 ghost use Rattle.std.specs.Prelude.{◌≡◌, if◌then◌else◌, Some, None, IfOk, OnOk};
 
 use crate::slot::Slot;
-use crate::word::Word;
+use actx_text::{Units, as_units};
+use indexmap::IndexMap;
 use sqlite_items::Items;
 use std::alloc::{AllocError, Global};
-use std::collections::HashMap;
 use std::marker::Model;
 
 /// The slots of a scope, where a name is found in the same time however many there are. Contracts see
@@ -19,7 +19,7 @@ use std::marker::Model;
 pub struct Table {
     slots: Items<Slot>,
     // of each name the last slot, and whether it is fixed
-    last: HashMap<Word, (usize, bool)>,
+    last: IndexMap<Vec<u16>, (usize, bool)>,
 }
 
 impl Model for Table {
@@ -43,11 +43,11 @@ impl Table {
     }
 
     /// The last slot of a name, and whether it is fixed.
-    pub fn last(&self, name: &Word) -> Option<(usize, bool)>
+    pub fn last(&self, name: &Units) -> Option<(usize, bool)>
         ensures { result ≡ last_slot name.now self.now 0 }
     {
         let _slots = self.slots.len();
-        match self.last.get(name) {
+        match self.last.get(as_units(name)) {
             Some(last) => Some(*last),
             None => None,
         }
@@ -71,14 +71,14 @@ fn note(
     alloc: Global,
     slot: &Slot,
     i: usize,
-    last: &mut HashMap<Word, (usize, bool)>,
+    last: &mut IndexMap<Vec<u16>, (usize, bool)>,
 ) -> Result<(), AllocError>
-    ensures { OnOk result ((name : Units) → at_name last.new name ≡ or_else (if is_word name slot.now.name then Some (i, slot.now.is_fixed) else None) (at_name last.old name)) }
+    ensures { OnOk result ((name : texts.Units) → at_name last.new name ≡ or_else (if is_word name slot.now.name then Some (i, slot.now.is_fixed) else None) (at_name last.old name)) }
 {
     match &slot.name {
         Some(name) => {
-            let word = Word::new(alloc, name)?;
-            last.insert(word, (i, slot.is_fixed))?;
+            let key = Vec::from_slice(alloc, as_units(name))?;
+            last.insert(key, (i, slot.is_fixed))?;
             Ok(())
         }
         None => Ok(()),
@@ -86,10 +86,10 @@ fn note(
 }
 
 /// Of each name among these slots the last slot.
-fn last_of(alloc: Global, slots: &[Slot]) -> Result<HashMap<Word, (usize, bool)>, AllocError>
-    ensures { IfOk result (λ m. (name : Units) → at_name m name ≡ last_slot name slots.now 0) }
+fn last_of(alloc: Global, slots: &[Slot]) -> Result<IndexMap<Vec<u16>, (usize, bool)>, AllocError>
+    ensures { IfOk result (λ m. (name : texts.Units) → at_name m name ≡ last_slot name slots.now 0) }
 {
-    let mut last = HashMap::new(alloc);
+    let mut last = IndexMap::new(alloc);
     for (i, slot) in slots.iter().enumerate() {
         note(alloc, slot, i, &mut last)?;
     }

@@ -214,7 +214,7 @@ impl<F: Fn(Bodies<'_>, Unread, Place, &mut Walk) -> Result<(), AllocError>> Inne
         requires holds { Holds self.now.bodies (F.pre self.now.body) (F.post self.now.body) }
         ensures { OnOk result (Adds (inside_of self.now.bodies) (class_inner slots (nodes.mapped nodes.expr_part (out-Class class.now).parent) (map nodes.member_part_of (out-Class class.now).members)) roles.Evaluated place walk.old walk.new) }
     {
-        let outer = walk.scopes.open(slots)?;
+        let outer = walk.scopes.open(self.bodies.alloc, slots)?;
         self.of_optional(&class.parent, place, walk)?;
         self.of_members(
             class.members.as_slice(),

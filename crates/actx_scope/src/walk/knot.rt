@@ -9,10 +9,9 @@ ghost use Rattle.actx_scope_rules.specs.declared.place.Role.TheVariants as roles
 ghost use Rattle.std.specs.Prelude.{◌≡◌, IfOk, OnOk, map};
 
 use crate::bodies::{Bodies, body_of};
-use crate::earlier::Earlier;
 use crate::findings::{self, Findings};
 use crate::walk::{Inner, Walk};
-use actx_scope_rules::{Place, Scopes, file_place};
+use actx_scope_rules::{Earlier, Place, Scopes, file_place};
 use actx_tree::{Tree, Unread};
 use std::alloc::{AllocError, Global};
 

@@ -251,7 +251,7 @@ impl<F: Fn(Bodies<'_>, Unread, Place, &mut Walk) -> Result<(), AllocError>> Inne
         ensures { OnOk result (Adds (inside_of self.now.bodies) (statements.body_marks items.now) roles.Evaluated place walk.old walk.new) }
     {
         let slots = slots_of_items(self.bodies.alloc, items)?;
-        let opened = walk.scopes.open(slots)?;
+        let opened = walk.scopes.open(self.bodies.alloc, slots)?;
         let start = walk.earlier.len();
         self.of_items(items, place, walk)?;
         walk.earlier.back_to(start);

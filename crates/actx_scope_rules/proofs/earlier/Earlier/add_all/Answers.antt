@@ -1,7 +1,7 @@
 use Rattle.std.proofs.Common.{arith, refl}
 use Rattle.actx_scope_rules.proofs.Lists.{more, finished}
 use Rattle.actx_scope_rules.proofs.Names.{slot_names-left, slot_names-done}
-use Rattle.actx_scope.proofs.earlier.Earlier.add_all.Goals as goal
+use Rattle.actx_scope_rules.proofs.earlier.Earlier.add_all.Goals as goal
 
 pub returns : goal.returns
 returns c = finished _ _ _ (slot_names-done c.args.slots.now c.loop-slot.slot-index (omega (arith, c.loop-slot-test.false))) c.loop-slot.invariant

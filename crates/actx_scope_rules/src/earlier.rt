@@ -1,29 +1,38 @@
 //! The names before a place in its scope.
 
 ghost use Rattle.actx_scope_rules.specs.Scopes.{slot_names};
-ghost use Rattle.actx_scope_rules.specs.Words.{among};
-ghost use Rattle.std.specs.Prelude.{◌≡◌, ◌∷◌, ◌++◌, ◌≤◌, [], length, take, OnOk};
+ghost use Rattle.actx_scope_rules.specs.Tables.{IsFirst};
+ghost use Rattle.actx_scope_rules.specs.Words.{among, is_word};
+ghost use Rattle.std.specs.Prelude.{◌≡◌, ◌∷◌, ◌++◌, ◌≤◌, [], length, take, slice_get, OnOk};
 
-use actx_scope_rules::{Slot, is_same};
-use actx_text::{Units, copy};
+use crate::slot::Slot;
+use crate::words::is_same;
+use actx_text::{Units, as_units, copy};
+use indexmap::IndexMap;
 use sqlite_items::Items;
 use std::alloc::{AllocError, Global};
 use std::marker::Model;
 
-/// The names that stand before a place in its scope. Contracts see the list of them.
+/// The names that stand before a place in its scope, where a name is found in the same time however
+/// many there are. Contracts see the list of them.
 #[derive(Drop)]
 pub struct Earlier {
     alloc: Global,
     names: Items<Units>,
+    // of each name the first place; of a name that was taken away again any place
+    places: IndexMap<Vec<u16>, usize>,
 }
 
 impl Model for Earlier {
     ghost use Rattle.std.specs.Prelude.{List};
     ghost use Rattle.actx_text.specs.declared.units.Units.{Units};
+    ghost use Rattle.actx_scope_rules.specs.Tables.{IsFirst};
 
     ghost Value = { List Units };
 
     ghost view = { λ e. e.names };
+
+    ghost invariant = { λ e. IsFirst e.places e.names };
 }
 
 impl Earlier {
@@ -34,6 +43,7 @@ impl Earlier {
         Earlier {
             alloc,
             names: Items::new(alloc),
+            places: IndexMap::new(alloc),
         }
     }
 
@@ -48,18 +58,14 @@ impl Earlier {
     pub fn has(&self, name: &Units) -> bool
         ensures { result ≡ among name.now self.now }
     {
-        for other in self.names.as_slice() {
-            if is_same(name, other) {
-                return true;
-            }
-        }
-        false
+        has_name(&self.places, self.names.as_slice(), name)
     }
 
     /// Adds a name.
     pub fn add(&mut self, name: &Units) -> Result<(), AllocError>
         ensures { OnOk result (self.new ≡ self.old ++ name.now ∷ []) }
     {
+        note_name(self.alloc, name, self.names.as_slice(), &mut self.places)?;
         let name = copy(self.alloc, name)?;
         self.names.push(name)?;
         Ok(())
@@ -92,6 +98,46 @@ impl Earlier {
     {
         cut(&mut self.names, count);
     }
+}
+
+/// Whether a name stands at this place.
+fn is_at(names: &[Units], i: usize, name: &Units) -> bool
+    ensures { result ≡ is_word name.now (slice_get names.now i) }
+{
+    match names.get(i) {
+        Some(other) => is_same(name, other),
+        None => false,
+    }
+}
+
+/// Whether a name is among these, of which a map gives the places.
+fn has_name(places: &IndexMap<Vec<u16>, usize>, names: &[Units], name: &Units) -> bool
+    requires { IsFirst places.now names.now }
+    ensures { result ≡ among name.now names.now }
+{
+    match places.get(as_units(name)) {
+        Some(place) => is_at(names, *place, name),
+        None => false,
+    }
+}
+
+/// Notes the place behind these names, unless the name is among them.
+fn note_name(
+    alloc: Global,
+    name: &Units,
+    names: &[Units],
+    places: &mut IndexMap<Vec<u16>, usize>,
+) -> Result<(), AllocError>
+    requires { IsFirst places.old names.now }
+    ensures same { IsFirst places.new names.now }
+    ensures more { OnOk result (IsFirst places.new (names.now ++ name.now ∷ [])) }
+{
+    if has_name(places, names, name) {
+        return Ok(());
+    }
+    let key = Vec::from_slice(alloc, as_units(name))?;
+    places.insert(key, names.len())?;
+    Ok(())
 }
 
 /// Leaves the first so many names of a list.

@@ -5,6 +5,7 @@
 
 mod bodies;
 mod findings;
+mod places;
 mod repeats;
 mod slots;
 mod walk;

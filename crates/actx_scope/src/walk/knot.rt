@@ -10,6 +10,7 @@ ghost use Rattle.std.specs.Prelude.{◌≡◌, IfOk, OnOk, map};
 
 use crate::bodies::{Bodies, body_of};
 use crate::findings::{self, Findings};
+use crate::places::places_of;
 use crate::walk::{Inner, Walk};
 use actx_scope_rules::{Earlier, Place, Scopes, file_place};
 use actx_tree::{Tree, Unread};
@@ -47,10 +48,14 @@ pub fn walk_tree(alloc: Global, tree: &Tree, count: u128) -> Result<Findings, Al
         earlier: Earlier::new(alloc),
         out: findings::nothing(alloc),
     };
+    let list = tree.bodies.as_slice();
+    let places = places_of(alloc, list)?;
     let bodies = Bodies {
         alloc,
         count,
-        list: tree.bodies.as_slice(),
+        list,
+        start: 0,
+        places: &places,
     };
     let inner = Inner {
         bodies,

@@ -1,0 +1,5 @@
+pub mod Bodies
+pub mod Places
+pub mod Walks
+pub mod Holds
+pub mod Checks

@@ -1,0 +1,11 @@
+pub mod FoldEquations
+pub mod PartEquations
+pub mod StatementEquations
+pub mod Orders
+pub mod Worked
+pub mod Units
+pub mod Lists
+pub mod Names
+pub mod Founds
+pub mod Tables
+pub mod Firsts

@@ -1,0 +1,11 @@
+pub mod Words
+pub mod Scopes
+pub mod Contexts
+pub mod Conditions
+pub mod Nodes
+pub mod Statements
+pub mod Early
+pub mod Examples
+pub mod Tables
+pub mod WordSlots
+pub mod Laws

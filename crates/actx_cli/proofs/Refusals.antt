@@ -10,8 +10,8 @@ use Rattle.actx_lex.proofs.OneList.{one-list}
 use Rattle.actx_tree.specs.declared.tree.Tree.{Tree as FileTree}
 use Rattle.actx_program.specs.Trees.{SpTree}
 use Rattle.actx_program.proofs.TreeLaws.{one_program}
-use Rattle.actx_scope.specs.declared.early.Early.{Early as EarlyError}
-use Rattle.actx_scope.specs.Early.{early_errors, first_error}
+use Rattle.actx_scope_rules.specs.declared.early.Early.{Early as EarlyError}
+use Rattle.actx_scope_rules.specs.Early.{early_errors, first_error}
 use Rattle.actx_printing.specs.Printing.{Prints}
 use Rattle.actx_printing.proofs.Injective.{one_printing}
 use Rattle.actx_cli.specs.declared.answer.Refusal.{Refusal}

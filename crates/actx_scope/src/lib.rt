@@ -10,4 +10,5 @@ mod repeats;
 mod slots;
 mod walk;
 
+pub use actx_scope_rules::EarlyKind;
 pub use slots::{ScopeError, Slots, check};

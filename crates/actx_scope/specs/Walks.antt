@@ -1,5 +1,5 @@
 -- What a walk over a tree adds to what it has found, part by part.
-use Rattle.std.specs.Prelude.{◌≡◌, ℕ, ◌+◌, Bool, true, false, List, [], ◌∷◌, ◌++◌, Option, Some, None}
+use Rattle.std.specs.Prelude.{◌≡◌, ℕ, ◌+◌, false, List, [], ◌∷◌, ◌++◌, Option, Some, None}
 use Rattle.actx_text.specs.declared.units.Units.{Units}
 use Rattle.actx_scope_rules.specs.declared.early.EarlyKind.{EarlyKind}
 use Rattle.actx_scope_rules.specs.declared.early.Early.{Early}

@@ -1,4 +1,4 @@
-use Rattle.std.proofs.Common.{◌≤◌, length, arith, refl}
+use Rattle.std.proofs.Common.{arith, refl}
 use Rattle.actx_scope.proofs.BodyFinds.{body_at_end, body_more, body_none}
 use Rattle.actx_scope.proofs.bodies.body_of.Goals as goal
 

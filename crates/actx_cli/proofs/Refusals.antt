@@ -1,5 +1,6 @@
 -- A file is not accepted and refused at once, and its refusals agree.
 use Rattle.std.proofs.Common.{◌≡◌, ℕ, ◌<◌, List, [], length, Option, Some, slice_get, refl, sym, ap, subst, ◌∙◌, arith}
+use Rattle.std.specs.Option.{option_map_or}
 use Rattle.actx_text.specs.Texts.{IsTextOf}
 use Rattle.actx_text.specs.Utf8.{IsFirstIllFormed}
 use Rattle.actx_text.proofs.Utf8Lemmas.{not_utf8, same_place}
@@ -68,7 +69,7 @@ no_first tree at sound h = let none = ap (λ (es : List EarlyError). slice_get e
 
 -- the first error of a tree stands at one place
 same_first : (tree : FileTree) (at place : ℕ) → HasEarlyError tree at → HasEarlyError tree place → at ≡ place
-same_first tree at place h k = cc (h.1, k.1)
+same_first tree at place h k = ap (λ (o : Option EarlyError). option_map_or (λ (e : EarlyError). e.at) o 0) (sym h.1 ∙ k.1)
 
 moved_error : (bytes : List ℕ) (s t : FileTree) (at : ℕ) → IsParsed bytes s → IsParsed bytes t → HasEarlyError s at → HasEarlyError t at
 moved_error bytes s t at p q h = subst (λ (x : FileTree). HasEarlyError x at) (one_tree bytes s t p q) h

@@ -32,10 +32,6 @@ behind_adds i f names r p a b d e start s bs bo be t es eo ee =
     adds-inside i f (named names f) r r p p a b d e bo t (es ∙ (t.scopes ∙ bs)) (back-again e.earlier d.earlier a.earlier names start s (t.earlier ∙ be) ee) eo (ap (λ z. f z) (sym (around-same k b r p bs be)))
 
 -- names that are bound and forgotten
-pub back_binds : (i : Inside) (f : Marks) (names : List Units) (r : Role) (p : Place) (a d e : Walk) (start : ℕ) → start ≡ length a.earlier → Binds i f names r p a d → e.scopes ≡ d.scopes → e.out ≡ d.out
-    → e.earlier ≡ take start d.earlier → Adds i f r p a e
-back_binds i f names r p a d e start s t es eo ee = record { scopes = es ∙ t.scopes; earlier = back-again e.earlier d.earlier a.earlier names start s t.earlier ee; out = eo ∙ t.out }
-
 -- ---- scopes
 
 pub closed-opened : (slots : Scope) (scopes : List Scope) → closed (has_any slots) (opened slots scopes) ≡ scopes

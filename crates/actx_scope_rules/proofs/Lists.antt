@@ -22,13 +22,6 @@ done xs i h = drop_of_length-le xs h
 abbrev pub ends : Bool → List Suffix → Bool
 ends b xs = last_is_member b (map suffix_part xs)
 
-pub ends_more : (xs : List Suffix) (i : ℕ) (x : Suffix) (before after whole : Bool) → i < length xs → x ≡ get_or xs i x → after ≡ (suffix_part x).is_member
-    → ends before (drop i xs) ≡ whole → ends after (drop (i + 1) xs) ≡ whole
-ends_more xs i x before after whole h e step keeps = ap (λ z. ends z (drop (i + 1) xs)) step ∙ (sym (ap (λ z. ends before z) (left xs i x h e)) ∙ keeps)
-
-pub ends_done : (xs : List Suffix) (i : ℕ) (found whole : Bool) → length xs ≤ i → ends found (drop i xs) ≡ whole → found ≡ whole
-ends_done xs i found whole h keeps = sym (ap (λ z. ends found z) (done xs i h)) ∙ keeps
-
 -- ---- keys
 
 abbrev pub bad_key : List Entry → Bool
@@ -65,7 +58,3 @@ finished found rest whole none whole_is = sym (append-nil found) ∙ (ap (λ z. 
 pub or-assoc : (a b c : Bool) → ((a || b) || c) ≡ (a || (b || c))
 or-assoc true b c = refl
 or-assoc false b c = refl
-
-pub or-false : (a : Bool) → (a || false) ≡ a
-or-false true = refl
-or-false false = refl

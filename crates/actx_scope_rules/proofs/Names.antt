@@ -7,7 +7,7 @@ use Rattle.actx_text.specs.declared.units.Units.{Units}
 use Rattle.actx_tree.specs.declared.stmt.Stmt.{Stmt}
 use Rattle.actx_scope_rules.specs.Statements.{statement, all_slots}
 use Rattle.actx_scope_rules.specs.declared.slot.Slot.{Slot}
-use Rattle.actx_scope_rules.specs.Words.{among, same_units, is_word}
+use Rattle.actx_scope_rules.specs.Words.{is_word}
 use Rattle.actx_scope_rules.specs.Scopes.{Scope, slots_of, slot_names, last_slot, or_else}
 use Rattle.actx_scope_rules.specs.Nodes.{Part, all_names, any_repeats, rest_names, listed}
 use Rattle.actx_scope_rules.proofs.Lists.{left, done, or-assoc}
@@ -93,22 +93,7 @@ pub last_done : (name : Units) (all : Scope) (i : ℕ) (found whole : Option (�
 unfolding last_slot
 last_done name all i found whole h keeps = sym (ap (λ z. or_else (last_slot name z i) found) h) ∙ keeps
 
--- ---- names before a place
-
-pub among_left : (name : Units) (xs : List Units) (i : ℕ) (x : Units) → i < length xs → x ≡ get_or xs i x → among name (drop i xs) ≡ (same_units name x || among name (drop (i + 1) xs))
-unfolding among
-among_left name xs i x h e = ap (λ z. among name z) (left xs i x h e)
-
-pub among_met : (name : Units) (xs : List Units) (i : ℕ) (x : Units) (b whole : Bool) → i < length xs → x ≡ get_or xs i x → b ≡ same_units name x → b ≡ true → among name (drop i xs) ≡ whole → true ≡ whole
-among_met name xs i x b whole h e is yes_it_is keeps = sym (ap (λ z. z || among name (drop (i + 1) xs)) (sym is ∙ yes_it_is)) ∙ (sym (among_left name xs i x h e) ∙ keeps)
-
-pub among_more : (name : Units) (xs : List Units) (i : ℕ) (x : Units) (b whole : Bool) → i < length xs → x ≡ get_or xs i x → b ≡ same_units name x → b ≡ false → among name (drop i xs) ≡ whole
-    → among name (drop (i + 1) xs) ≡ whole
-among_more name xs i x b whole h e is not_it keeps = sym (ap (λ z. z || among name (drop (i + 1) xs)) (sym is ∙ not_it)) ∙ (sym (among_left name xs i x h e) ∙ keeps)
-
-pub among_done : (name : Units) (xs : List Units) (i : ℕ) (whole : Bool) → length xs ≤ i → among name (drop i xs) ≡ whole → false ≡ whole
-unfolding among
-among_done name xs i whole h keeps = sym (ap (λ z. among name z) (done xs i h)) ∙ keeps
+-- ---- names of slots
 
 pub slot_names-left : (xs : Scope) (i : ℕ) (x : Slot) → i < length xs → x ≡ get_or xs i x → slot_names (drop i xs) ≡ slot_names (x ∷ []) ++ slot_names (drop (i + 1) xs)
 slot_names-left xs i x h e = ap (λ z. slot_names z) (left xs i x h e) ∙ slot_names-append (x ∷ []) (drop (i + 1) xs)

@@ -10,10 +10,6 @@ use Rattle.actx_scope_rules.specs.Words.{is_word, global_names}
 abbrev pub Scope : Type 0
 Scope = List Slot
 
--- a name that is assigned as the program likes
-abbrev pub free_slot : Units → Slot
-free_slot name = record { name = Some name; is_fixed = false }
-
 -- the name of a const, a class or a function
 abbrev pub fixed_slot : Units → Slot
 fixed_slot name = record { name = Some name; is_fixed = true }

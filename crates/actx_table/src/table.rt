@@ -1,7 +1,7 @@
 //! The table of the built-in objects.
 
 ghost use Rattle.std.specs.Prelude.{◌≡◌, slice_get};
-ghost use Rattle.actx_builtin.specs.Table.{callable_of, count};
+ghost use Rattle.actx_table.specs.Table.{callable_of, count};
 
 use crate::built::Built;
 use crate::native_id::NativeId;

@@ -7,10 +7,10 @@ use Rattle.actx_value.specs.Texts.{texts_eq}
 use Rattle.actx_value.specs.declared.ids.ObjId.{ObjId}
 use Rattle.actx_value.specs.declared.caller_id.CallerId.{CallerId}
 use Rattle.actx_value.specs.declared.caller_id.CallerId.TheVariants as callers
-use Rattle.actx_builtin.specs.declared.built.Built.{Built}
-use Rattle.actx_builtin.specs.declared.built.Built.TheVariants.{Native, Caller, Bundled}
-use Rattle.actx_builtin.specs.declared.native_id.NativeId.{NativeId}
-use Rattle.actx_builtin.specs.declared.native_id.NativeId.TheVariants as natives
+use Rattle.actx_table.specs.declared.built.Built.{Built}
+use Rattle.actx_table.specs.declared.built.Built.TheVariants.{Native, Caller, Bundled}
+use Rattle.actx_table.specs.declared.native_id.NativeId.{NativeId}
+use Rattle.actx_table.specs.declared.native_id.NativeId.TheVariants as natives
 
 -- an object with the path by which a program reaches it, and what a function is called as
 pub record Row : Type 0 where

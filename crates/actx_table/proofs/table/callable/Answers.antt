@@ -1,7 +1,7 @@
 use Rattle.std.proofs.Common.{Option, sym, ap, ◌∙◌}
 use Rattle.std.specs.Option.{option_and_then}
-use Rattle.actx_builtin.specs.declared.built.Built.{Built}
-use Rattle.actx_builtin.proofs.table.callable.Goals as goal
+use Rattle.actx_table.specs.declared.built.Built.{Built}
+use Rattle.actx_table.proofs.table.callable.Goals as goal
 
 pub returns-in-Some : goal.returns-in-Some
 returns-in-Some c = ap (option_and_then (λ (b : Option Built). b)) (sym c.in-Some.is ∙ c.entry_at.ensures)

@@ -1,5 +1,5 @@
 -- The values of the global names, and the built-in prototypes.
-use Rattle.std.specs.Prelude.{ℕ, List, [], ◌∷◌, ◌++◌, map, Option, Some, None, slice_get, unwrap_or, codes}
+use Rattle.std.specs.Prelude.{ℕ, List, [], ◌∷◌, map, Option, Some, None, slice_get, codes}
 use Rattle.std.specs.Option.{option_map, option_and_then}
 use Rattle.actx_value.specs.declared.ids.ObjId.{ObjId}
 use Rattle.actx_value.specs.declared.error_kind.ErrorKind.TheVariants.{TypeError, RangeError, ReferenceError, Error as AnyError}
@@ -7,9 +7,9 @@ use Rattle.actx_value.specs.declared.value.Value.{Value}
 use Rattle.actx_value.specs.declared.value.Value.TheVariants.{Undefined, Object}
 use Rattle.actx_objects.specs.declared.kind.Kind.{Kind}
 use Rattle.actx_objects.specs.declared.kind.Kind.TheVariants as kinds
-use Rattle.actx_builtin.specs.declared.built.Proto.{Proto}
-use Rattle.actx_builtin.specs.declared.built.Proto.TheVariants.{Of, Error, Text, Number, Truth}
-use Rattle.actx_builtin.specs.Table.{number_at}
+use Rattle.actx_table.specs.declared.built.Proto.{Proto}
+use Rattle.actx_table.specs.declared.built.Proto.TheVariants.{Of, Error, Text, Number, Truth}
+use Rattle.actx_table.specs.Table.{number_at}
 
 -- the built-in object with this path
 abbrev pub object_at : List ℕ → Option ObjId

@@ -1,7 +1,7 @@
 //! The values of the global names, and the built-in prototypes.
 
 ghost use Rattle.std.specs.Prelude.{◌≡◌, slice_get};
-ghost use Rattle.actx_builtin.specs.Globals.{global_of, kind_path, object_at, prototype_of};
+ghost use Rattle.actx_table.specs.Globals.{global_of, kind_path, object_at, prototype_of};
 ghost use Rattle.std.specs.Option.{option_and_then};
 
 use crate::built::Proto;

@@ -1,4 +1,0 @@
-use Rattle.actx_builtin.proofs.globals.global.Goals as goal
-
-pub returns : goal.returns
-returns c = c.value_at.ensures

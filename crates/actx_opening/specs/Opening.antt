@@ -1,0 +1,29 @@
+-- The opening store: the texts, and the built-in objects by number with their hidden properties, each frozen. Its limits are
+-- those of the run, raised by what stands in it.
+use Rattle.std.specs.Prelude.{ℕ, zero, suc, ◌+◌, List, [], length, map}
+use Rattle.std.specs.List.{fold}
+use Rattle.actx_value.specs.Texts.{TextStore, units_of}
+use Rattle.actx_objects.specs.Objects.{ObjectStore, frozen_by}
+use Rattle.actx_opening.specs.Starts.{starts, started}
+use Rattle.actx_opening.specs.Members.{members, with_member}
+use Rattle.actx_opening.specs.Texts.{with_literals, opening_texts}
+
+-- the objects, of which so many are frozen
+unfoldable pub frozen_to : ℕ → ObjectStore → ObjectStore
+frozen_to zero s = s
+frozen_to (suc n) s = frozen_by (frozen_to n s) (record { 0 = n })
+
+-- the objects of an empty store with their properties, where `first` is the number of the first word
+unfoldable pub filled : List (List ℕ) → ℕ → ObjectStore → ObjectStore
+filled texts first s = fold (with_member texts first) (fold started s starts) members
+
+-- an empty store with these limits raised by the built-in objects and by their properties
+abbrev pub emptied : ℕ → ℕ → ObjectStore
+emptied objects properties = record { objects = []; most_objects = objects + 161; most_properties = properties + 297 }
+
+abbrev pub opening_objects : List (List ℕ) → ℕ → ℕ → ObjectStore
+opening_objects literals objects properties =
+    frozen_to 161 (filled (opening_texts literals) (length (with_literals literals)) (emptied objects properties))
+
+abbrev pub text_store : List (List ℕ) → ℕ → TextStore
+text_store literals units = record { texts = opening_texts literals; limit = units + units_of (opening_texts literals) }

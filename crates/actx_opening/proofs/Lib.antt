@@ -1,1 +1,3 @@
 mod Freezes
+mod Literals
+mod Tables

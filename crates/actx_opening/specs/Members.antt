@@ -86,11 +86,11 @@ abbrev pub error_member : List ℕ → List ℕ → List ℕ → Member
 error_member name text error = saying (error ++ codes ".prototype") name text
 
 -- the objects that stand in others, and the two numbers
-abbrev pub held : List Member
+unfoldable pub held : List Member
 held = filter_map member_of rows ++ further_members
 
 -- the names of functions, the constructors of prototypes, and what stands on the prototypes of errors
-abbrev pub named : List Member
+unfoldable pub named : List Member
 named = filter_map naming rows ++ filter_map constructor_of rows
     ++ map (λ error. error_member (codes "name") error error) error_names
     ++ map (λ error. error_member (codes "message") [] error) error_names
@@ -106,5 +106,5 @@ value_from first given.Empty = Text (record { 0 = 0 })
 value_from first (given.Number n) = Num n
 
 -- the objects with one property more
-abbrev pub with_member : List (List ℕ) → ℕ → ObjectStore → Member → ObjectStore
+unfoldable pub with_member : List (List ℕ) → ℕ → ObjectStore → Member → ObjectStore
 with_member texts first s m = written texts s m.0 (Name (record { 0 = first + m.1 })) (value_from first m.2) true

@@ -39,9 +39,9 @@ proto_path r = option_map_or (λ e. e.1) (find (λ e. texts_eq e.0 r.path) excep
 abbrev pub start_of : Row → Start
 start_of r = record { 0 = kind_in r; 1 = option_and_then object_at (proto_path r) }
 
-abbrev pub starts : List Start
+unfoldable pub starts : List Start
 starts = map start_of rows
 
 -- one more object. A prototype that isn't there yet is none
-abbrev pub started : ObjectStore → Start → ObjectStore
+unfoldable pub started : ObjectStore → Start → ObjectStore
 started s x = made s x.0 x.1

@@ -42,7 +42,7 @@ member_words =
     ∷ codes "Boolean" ∷ codes "Error" ∷ codes "TypeError" ∷ codes "RangeError" ∷ codes "ReferenceError"
     ∷ codes "AggregateError" ∷ codes "Map" ∷ codes "Set" ∷ codes "Promise" ∷ []
 
-abbrev pub words : List (List ℕ)
+unfoldable pub words : List (List ℕ)
 words = runtime_words ++ message_words ++ member_words
 
 -- the lines of a text of which `word` is read already, each ended by a line feed

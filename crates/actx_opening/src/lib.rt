@@ -4,12 +4,12 @@
 mod held;
 mod member;
 mod named;
-mod opening;
 mod start;
 mod starts;
+mod store;
 mod texts;
 mod words;
 
 pub use member::{Given, Member};
-pub use opening::{Store, opening};
 pub use start::Start;
+pub use store::{Store, opening};

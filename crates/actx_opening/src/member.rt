@@ -50,13 +50,7 @@ fn value_from(first: u32, given: Given) -> Result<Value, AllocError>
 }
 
 /// Puts a hidden property.
-fn put(
-    objects: &mut Objects,
-    texts: &Texts,
-    o: ObjId,
-    k: Key,
-    v: Value,
-) -> Result<(), AllocError>
+fn put(objects: &mut Objects, texts: &Texts, o: ObjId, k: Key, v: Value) -> Result<(), AllocError>
     ensures { OnOk result (objects.new ≡ written texts.now.texts objects.old o k v true) }
 {
     match objects.set_hidden(o, k, v, texts) {

@@ -13,6 +13,7 @@ use std::alloc::AllocError;
 pub struct Start(pub Kind, pub Option<ObjId>);
 
 /// Makes one object.
+#[tactic(auto, unfolding(crate::specs::Starts::started))]
 fn make(objects: &mut Objects, start: Start) -> Result<(), AllocError>
     ensures { OnOk result (objects.new ≡ started objects.old start) }
 {

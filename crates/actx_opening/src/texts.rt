@@ -2,9 +2,9 @@
 
 ghost use Rattle.std.specs.Prelude.{◌≡◌, ◌<◌, ◌+◌, [], ◌∷◌, length, codes, IfOk, OnOk};
 ghost use Rattle.std.specs.List.{fold};
-ghost use Rattle.actx_value.specs.Texts.{with_text, added_number, units_of};
+ghost use Rattle.actx_value.specs.Texts.{added_number, units_of};
 ghost use Rattle.actx_opening.specs.Words.{lines_from, words};
-ghost use Rattle.actx_opening.specs.Texts.{with_literals, opening_texts};
+ghost use Rattle.actx_opening.specs.Texts.{added, with_literals, opening_texts};
 
 use crate::words::WORDS;
 use actx_code::Code;
@@ -18,9 +18,10 @@ const LINE_FEED: u8 = 0x0A;
 const MOST: u64 = 2_147_483_647;
 
 /// Adds a text.
+#[tactic(auto, unfolding(crate::specs::Texts::added))]
 fn add(texts: &mut Texts, t: Units) -> Result<TextId, AllocError>
     ensures number { IfOk result (λ id. id.0 ≡ added_number texts.old.texts t) }
-    ensures ok { OnOk result (texts.new ≡ record { texts = with_text texts.old.texts t; limit = texts.old.limit }) }
+    ensures ok { OnOk result (texts.new ≡ record { texts = added texts.old.texts t; limit = texts.old.limit }) }
 {
     match texts.add(t) {
         Ok(id) => Ok(id),
@@ -40,7 +41,7 @@ fn next(i: u32) -> Result<u32, AllocError>
 
 /// Adds the literal texts of the code, in their order.
 fn add_literals(alloc: Global, texts: &mut Texts, code: &Code) -> Result<(), AllocError>
-    ensures { OnOk result (texts.new ≡ record { texts = fold with_text texts.old.texts code.now.literals; limit = texts.old.limit }) }
+    ensures { OnOk result (texts.new ≡ record { texts = fold added texts.old.texts code.now.literals; limit = texts.old.limit }) }
 {
     let mut i = 0u32;
     while let Some(text) = code.literal(i) {
@@ -52,7 +53,7 @@ fn add_literals(alloc: Global, texts: &mut Texts, code: &Code) -> Result<(), All
 
 /// Adds each line of a table.
 fn add_lines(alloc: Global, texts: &mut Texts, table: &[u8]) -> Result<(), AllocError>
-    ensures { OnOk result (texts.new ≡ record { texts = fold with_text texts.old.texts (lines_from [] table.now); limit = texts.old.limit }) }
+    ensures { OnOk result (texts.new ≡ record { texts = fold added texts.old.texts (lines_from [] table.now); limit = texts.old.limit }) }
 {
     let mut word = Vec::new(alloc);
     for letter in table {
@@ -78,7 +79,7 @@ pub(crate) struct Worded {
 /// Adds the first word, and gives its number.
 fn add_first(alloc: Global, texts: &mut Texts) -> Result<u32, AllocError>
     ensures number { IfOk result (λ n. n ≡ length texts.old.texts) }
-    ensures ok { OnOk result (texts.new ≡ record { texts = with_text texts.old.texts (codes "length"); limit = texts.old.limit }) }
+    ensures ok { OnOk result (texts.new ≡ record { texts = added texts.old.texts (codes "length"); limit = texts.old.limit }) }
 {
     let units = Vec::from_slice(alloc, &[0x6Cu16, 0x65, 0x6E, 0x67, 0x74, 0x68])?;
     Ok(add(texts, from_units(units))?.0)
@@ -87,7 +88,7 @@ fn add_first(alloc: Global, texts: &mut Texts) -> Result<u32, AllocError>
 /// Adds the words, and gives the number of the first one.
 fn add_words(alloc: Global, texts: &mut Texts) -> Result<u32, AllocError>
     ensures number { IfOk result (λ n. n ≡ length texts.old.texts) }
-    ensures ok { OnOk result (texts.new ≡ record { texts = fold with_text texts.old.texts words; limit = texts.old.limit }) }
+    ensures ok { OnOk result (texts.new ≡ record { texts = fold added texts.old.texts words; limit = texts.old.limit }) }
 {
     let first = add_first(alloc, texts)?;
     add_lines(alloc, texts, &WORDS)?;

@@ -1,5 +1,5 @@
 -- The tables of the code are those that the definitions say.
-use Rattle.std.proofs.Common.{◌≡◌, ℕ, List, [], ◌∷◌, ◌++◌, codes, refl, sym, ap, ◌∙◌}
+use Rattle.std.proofs.Common.{◌≡◌, true, ℕ, List, [], ◌∷◌, ◌++◌, codes, refl, sym, ap, ◌∙◌}
 use Rattle.std.proofs.lemmas.List.Sums.{fold-append}
 use Rattle.std.specs.List.{fold}
 use Rattle.actx_value.specs.Texts.{TextStore}
@@ -12,7 +12,7 @@ use Rattle.actx_opening.specs.Words.{words, lines_from}
 use Rattle.actx_opening.specs.Texts.{added}
 use Rattle.actx_opening.specs.Starts.{starts, started}
 use Rattle.actx_opening.specs.Members.{held, named, members, with_member}
-use Rattle.actx_opening.specs.Opening.{filled}
+use Rattle.actx_opening.specs.Opening.{filled, member_count, are_apart, is_apart}
 
 pub words_are : codes "length" ∷ lines_from [] WORDS ≡ words
 unfolding words
@@ -47,3 +47,11 @@ filled_are texts first s t u h k =
     ∙ ap (λ ms. fold (with_member texts first) (fold (with_member texts first) (fold started s starts) ms) NAMED) held_are
     ∙ ap (λ ms. fold (with_member texts first) (fold (with_member texts first) (fold started s starts) held) ms) named_are
     ∙ sym (fold-append (with_member texts first) (fold started s starts) held named)
+
+pub member_count_is : 297 ≡ member_count
+unfolding member_count held named words
+member_count_is = refl
+
+pub all_apart : are_apart members ≡ true
+unfolding are_apart is_apart held named words
+all_apart = refl

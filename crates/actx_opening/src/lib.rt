@@ -12,4 +12,7 @@ mod words;
 
 pub use member::{Given, Member};
 pub use start::Start;
-pub use store::{Store, opening};
+pub use store::{Store, members_are_apart, opening};
+
+#[cfg(test)]
+mod tests;

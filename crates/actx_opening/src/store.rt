@@ -1,7 +1,9 @@
 //! The opening store.
 
-ghost use Rattle.std.specs.Prelude.{◌≡◌, ◌<◌, ◌+◌, IfOk, OnOk};
-ghost use Rattle.actx_opening.specs.Opening.{frozen_to, filled, emptied, opening_objects, text_store};
+ghost use Rattle.std.specs.Prelude.{◌≡◌, true, ◌<◌, ◌+◌, IfOk, OnOk};
+ghost use Rattle.actx_table.specs.Table.{count};
+ghost use Rattle.actx_opening.specs.Members.{members};
+ghost use Rattle.actx_opening.specs.Opening.{frozen_to, filled, emptied, member_count, are_apart, opening_objects, text_store};
 
 use crate::held::HELD;
 use crate::member::put_all;
@@ -43,6 +45,15 @@ fn fill(objects: &mut Objects, texts: &Texts, first: u32) -> Result<(), AllocErr
     put_all(objects, texts, first, &NAMED)
 }
 
+/// How many properties the built-in objects have.
+#[tactic(auto, using(crate::proofs::Tables::member_count_is))]
+fn member_count() -> u64
+    ensures count { result ≡ member_count }
+    ensures few { result < 1000 }
+{
+    297
+}
+
 /// The built-in objects, where `first` is the number of the first word.
 fn built_in_objects(
     alloc: Global,
@@ -50,9 +61,13 @@ fn built_in_objects(
     first: u32,
     limits: &Limits,
 ) -> Result<Objects, AllocError>
-    ensures { IfOk result (λ objects. objects ≡ frozen_to 161 (filled texts.now.texts first (emptied limits.now.objects limits.now.properties))) }
+    ensures { IfOk result (λ objects. objects ≡ frozen_to count (filled texts.now.texts first (emptied limits.now.objects limits.now.properties))) }
 {
-    let mut objects = Objects::new(alloc, limits.objects + 161, limits.properties + 297);
+    let mut objects = Objects::new(
+        alloc,
+        limits.objects + 161,
+        limits.properties + member_count(),
+    );
     fill(&mut objects, texts, first)?;
     freeze_to(&mut objects, built_ins());
     Ok(objects)
@@ -83,3 +98,8 @@ pub fn opening(alloc: Global, code: &Code, limits: &Limits) -> Result<Store, All
     let objects = built_in_objects(alloc, &texts, first, limits)?;
     Ok(Store { texts, objects })
 }
+
+/// No two properties of the opening store have the same holder and the same name, so each counts one.
+pub fn members_are_apart()
+    ensures { are_apart members ≡ true }
+{}

@@ -1,0 +1,3 @@
+mod Above
+mod EntryLemmas
+mod EntryOutcomes

@@ -1,0 +1,4 @@
+pub mod Outcomes
+pub mod Limits
+pub mod Receivers
+pub mod Collections

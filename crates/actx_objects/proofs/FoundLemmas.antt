@@ -1,20 +1,19 @@
 -- Keys stay found after each change, and the first entry from a place on.
-use Rattle.std.proofs.Common.{◌≡◌, ◌≢◌, ℕ, zero, suc, ◌+◌, ◌<◌, ◌≤◌, ◌⊎◌, inl, inr, cond, Bool, true, false, nat_le, nat_eq, List, [], ◌∷◌, ◌++◌, drop, length, slice_get, slice_set, Option, Some, None, is_some, refl, sym, subst, ap, ◌∙◌, arith, true≢false, length-append}
+use Rattle.std.proofs.Common.{◌≡◌, ◌≢◌, ℕ, ◌+◌, ◌<◌, ◌⊎◌, inl, inr, cond, Bool, true, false, nat_eq, List, [], ◌∷◌, ◌++◌, length, slice_get, slice_set, Option, Some, None, is_some, refl, sym, subst, ap, ◌∙◌, arith, true≢false, length-append}
 use Rattle.std.proofs.lemmas.Bool.Decides.{nat_tests}
 use Rattle.std.proofs.lemmas.Option.{none-some, slice_get_within}
 use Rattle.std.specs.List.{find}
-use Rattle.std.specs.Option.{option_map, option_map_or}
 use Rattle.actx_value.specs.declared.value.Value.{Value}
 use Rattle.actx_objects.specs.declared.slot.Slot.{Slot}
 use Rattle.actx_objects.specs.declared.entries.Placed.{Placed}
 use Rattle.actx_objects.specs.Keys.{value_eq}
 use Rattle.actx_objects.specs.Pairs.{at_key, with_key, without_key}
-use Rattle.actx_objects.specs.Entries.{EntryList, entry_in, with_entry, without_entry, triple_of, first_from}
+use Rattle.actx_objects.specs.Entries.{EntryList}
 use Rattle.actx_objects.specs.Slots.{entry_at, standing_from, IsFound}
 use Rattle.actx_objects.proofs.PairLemmas.{length-with_key, length-without_key}
 use Rattle.actx_objects.proofs.ValueLemmas.{value_is, value_self}
 use Rattle.actx_objects.proofs.SliceLemmas.{set_here, set_elsewhere, push_here, push_before, push_cases}
-use Rattle.actx_objects.proofs.SlotLemmas.{there, there_with, there_without, not_there, not_there_with, pushed_slot, place_within, some_same}
+use Rattle.actx_objects.proofs.SlotLemmas.{there, there_with, there_without, pushed_slot, some_same}
 
 -- what contracts see of slots
 abbrev pub seen : List (Option Slot) → EntryList

@@ -10,3 +10,4 @@ mod SlotLemmas
 mod FoundLemmas
 mod SeenLemmas
 mod OrderLemmas
+mod ClearLemmas

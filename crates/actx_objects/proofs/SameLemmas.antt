@@ -1,5 +1,5 @@
 -- The comparisons of keys and values are those of the definitions.
-use Rattle.std.proofs.Common.{◌≡◌, Bool, true, false, refl}
+use Rattle.std.proofs.Common.{◌≡◌, true, false, refl}
 use Rattle.actx_value.specs.declared.value.Key.{Key}
 use Rattle.actx_value.specs.declared.value.Key.TheVariants.{Index, Name}
 use Rattle.actx_value.specs.declared.value.Value.{Value}

@@ -1,5 +1,5 @@
 -- What contracts see of slots after each change.
-use Rattle.std.proofs.Common.{◌≡◌, ◌≢◌, ℕ, zero, suc, ◌+◌, ◌<◌, ◌≤◌, cond, Bool, true, false, nat_le, List, [], ◌∷◌, ◌++◌, drop, length, slice_get, slice_set, Option, Some, None, is_some, refl, sym, ap, ◌∙◌, arith, length-append}
+use Rattle.std.proofs.Common.{◌≡◌, ℕ, zero, suc, ◌+◌, ◌≤◌, cond, true, false, nat_le, List, [], ◌∷◌, ◌++◌, drop, length, slice_get, slice_set, Option, Some, None, is_some, refl, sym, ap, ◌∙◌, arith, length-append}
 use Rattle.std.proofs.Math.ListN.{length-set}
 use Rattle.std.proofs.lemmas.Bool.Decides.{nat_tests}
 use Rattle.std.specs.List.{find}
@@ -8,8 +8,8 @@ use Rattle.actx_value.specs.declared.value.Value.{Value}
 use Rattle.actx_objects.specs.declared.slot.Slot.{Slot}
 use Rattle.actx_objects.specs.declared.entries.Placed.{Placed}
 use Rattle.actx_objects.specs.Keys.{value_eq}
-use Rattle.actx_objects.specs.Pairs.{at_key, with_key, without_key}
-use Rattle.actx_objects.specs.Entries.{EntryList, entry_in, with_entry, without_entry, triple_of, first_from}
+use Rattle.actx_objects.specs.Pairs.{with_key, without_key}
+use Rattle.actx_objects.specs.Entries.{EntryList, with_entry, without_entry, triple_of}
 use Rattle.actx_objects.specs.Slots.{entry_at, standing_from, IsFound}
 use Rattle.actx_objects.proofs.DropLemmas.{drop_next}
 use Rattle.actx_objects.proofs.PairLemmas.{length-without_key}

@@ -1,5 +1,5 @@
 -- Slots as a list of entries.
-use Rattle.std.proofs.Common.{◌≡◌, ◌≢◌, ℕ, zero, suc, ◌+◌, ◌<◌, ◌≤◌, ◌⊎◌, inl, inr, cond, Bool, true, false, List, [], ◌∷◌, ◌++◌, length, slice_get, slice_set, Option, Some, None, is_some, refl, sym, subst, ap, ◌∙◌, arith, true≢false}
+use Rattle.std.proofs.Common.{◌≡◌, ◌≢◌, ℕ, zero, suc, ◌+◌, ◌<◌, cond, Bool, true, false, List, [], ◌∷◌, ◌++◌, length, slice_get, slice_set, Option, Some, None, refl, sym, ap, ◌∙◌, arith}
 use Rattle.std.proofs.lemmas.Option.{none-some, slice_get_within}
 use Rattle.std.specs.Option.{option_map_or}
 use Rattle.actx_value.specs.declared.value.Value.{Value}
@@ -9,7 +9,6 @@ use Rattle.actx_objects.specs.Keys.{value_eq}
 use Rattle.actx_objects.specs.Pairs.{at_key, with_key, without_key}
 use Rattle.actx_objects.specs.Slots.{entry_at, standing_from, IsFound}
 use Rattle.actx_objects.proofs.ValueLemmas.{value_is, value_self}
-use Rattle.actx_objects.proofs.SliceLemmas.{set_here, set_elsewhere, push_here, push_before, push_cases}
 
 abbrev pub Entry : Type 0
 Entry = Value × Placed

@@ -1,5 +1,5 @@
 -- A sorted list is the definition's ascending one.
-use Rattle.std.proofs.Common.{◌≡◌, ℕ, zero, suc, ◌+◌, ◌<◌, ◌≤◌, slice_index_or, cond, Bool, true, false, nat_le, nat_lt, not, ◌&&◌, ◌==◌, true≢false, List, [], ◌∷◌, drop, length, refl, sym, ap, ◌∙◌, arith}
+use Rattle.std.proofs.Common.{◌≡◌, ℕ, suc, ◌<◌, ◌≤◌, slice_index_or, cond, Bool, true, false, nat_le, nat_lt, not, ◌&&◌, ◌==◌, true≢false, List, [], ◌∷◌, drop, length, refl, sym, ap, ◌∙◌, arith}
 use Rattle.std.proofs.lemmas.Bool.Decides.{nat_tests}
 use Rattle.std.specs.List.{filter}
 use Rattle.std.specs.List.Sorted.{IsNonDecreasingBy, IsSorted, IsStable, ties}

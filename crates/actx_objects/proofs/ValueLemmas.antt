@@ -1,7 +1,6 @@
 -- Values that compare as one are one.
-use Rattle.std.proofs.Common.{◌≡◌, ℕ, Bool, true, false, nat_eq, ℤ, refl, sym, ap, ◌∙◌, true≢false, arith}
+use Rattle.std.proofs.Common.{◌≡◌, ℕ, true, false, nat_eq, refl, sym, ap, true≢false, arith}
 use Rattle.std.proofs.lemmas.Bool.Decides.{nat_tests, Decides-int_eq}
-use Rattle.std.specs.Ordering.{int_eq}
 use Rattle.actx_value.specs.declared.value.Value.{Value}
 use Rattle.actx_value.specs.declared.value.Value.TheVariants.{Undefined, Null, Bool as Truth, Num, Text, Object, Scope, Mark}
 use Rattle.actx_value.specs.declared.ids.TextId.{TextId}

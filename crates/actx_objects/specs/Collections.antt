@@ -5,7 +5,8 @@ use Rattle.actx_value.specs.declared.ids.ObjId.{ObjId}
 use Rattle.actx_objects.specs.declared.refusal.SetError.{SetError}
 use Rattle.actx_objects.specs.declared.refusal.SetError.TheVariants.{Full}
 use Rattle.actx_objects.specs.Keys.{normal_value}
-use Rattle.actx_objects.specs.Objects.{ObjectStore, entry_of, entry_put, entry_dropped, has_no_place}
+use Rattle.actx_objects.specs.Entries.{none_standing}
+use Rattle.actx_objects.specs.Objects.{ObjectStore, changed, entry_of, entry_put, entry_dropped, has_no_place}
 
 abbrev pub has_entry : List (List ℕ) → ObjectStore → ObjId → Value → Bool
 has_entry texts s o key = is_some (entry_of texts s o key)
@@ -21,3 +22,7 @@ entry_written texts s o key v = entry_put s o (normal_value texts key) v
 -- the objects without the entry under the key (ECMA-262 §24.1.3.3, §24.2.4.4)
 abbrev pub entry_left : List (List ℕ) → ObjectStore → ObjId → Value → ObjectStore
 entry_left texts s o key = if has_entry texts s o key then entry_dropped s o (normal_value texts key) else s
+
+-- the objects without the entries of one (ECMA-262 §24.1.3.1, §24.2.4.2)
+abbrev pub entries_cleared : ObjectStore → ObjId → ObjectStore
+entries_cleared s o = changed s o (λ x. record x { entries = none_standing x.entries })

@@ -1,6 +1,6 @@
 -- The entries of a Map or a Set: each with the place where it was put first. Places only grow, and
 -- none is given twice.
-use Rattle.std.specs.Prelude.{ℕ, suc, ◌≤◌, ◌<◌, Bool, nat_le, List, [], ◌∷◌, Option, Some, None, is_some, All, ⊤, if◌then◌else◌}
+use Rattle.std.specs.Prelude.{ℕ, suc, ◌≤◌, ◌<◌, nat_le, List, [], ◌∷◌, Option, is_some, All, ⊤, if◌then◌else◌}
 use Rattle.std.specs.List.{find}
 use Rattle.std.specs.Option.{option_map, option_map_or}
 use Rattle.actx_value.specs.declared.value.Value.{Value}
@@ -32,6 +32,10 @@ with_entry key v es = record {
 -- the entries without the one under the key (ECMA-262 §24.1.3.3, §24.2.4.4)
 abbrev pub without_entry : Value → EntryList → EntryList
 without_entry key es = record { standing = without_key value_eq key es.standing; places = es.places }
+
+-- no entry stands; the places stay given (ECMA-262 §24.1.3.1, §24.2.4.2)
+abbrev pub none_standing : EntryList → EntryList
+none_standing es = record { standing = []; places = es.places }
 
 -- the first entry whose place is at least this one, as (place, key, value)
 abbrev pub triple_of : Value × Placed → ℕ × Value × Value

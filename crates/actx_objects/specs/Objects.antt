@@ -1,6 +1,6 @@
 -- The objects of a run as a list of records, and what each call reads and leaves. `texts` are the texts
 -- by number, and names are equal where their texts are.
-use Rattle.std.specs.Prelude.{ℕ, zero, suc, ◌+◌, Bool, true, false, not, ◌&&◌, nat_le, nat_lt, ℤ, pos, List, [], ◌∷◌, ◌++◌, length, sum_by, slice_get, slice_set, take, Option, Some, None, if◌then◌else◌, is_some, is_none}
+use Rattle.std.specs.Prelude.{ℕ, zero, suc, ◌+◌, Bool, true, false, ◌&&◌, nat_le, nat_lt, pos, List, [], ◌∷◌, ◌++◌, length, sum_by, slice_get, slice_set, Option, Some, None, if◌then◌else◌, is_some, is_none}
 use Rattle.std.specs.Option.{option_map, option_map_or, option_and_then}
 use Rattle.actx_value.specs.declared.value.Key.{Key}
 use Rattle.actx_value.specs.declared.value.Value.{Value}
@@ -12,8 +12,8 @@ use Rattle.actx_objects.specs.declared.kind.Kind.TheVariants.{Plain}
 use Rattle.actx_objects.specs.declared.object.Object.{Object}
 use Rattle.actx_objects.specs.Keys.{normal_key, normal_value, key_eq, is_length}
 use Rattle.actx_objects.specs.Kinds.{is_array, is_collection}
-use Rattle.actx_objects.specs.Pairs.{at_key, without_key}
-use Rattle.actx_objects.specs.Properties.{with_value, shown_keys, keys_in_order}
+use Rattle.actx_objects.specs.Pairs.{at_key}
+use Rattle.actx_objects.specs.Properties.{shown_keys, keys_in_order}
 use Rattle.actx_objects.specs.Entries.{EntryList, entry_in, with_entry, without_entry, first_from}
 
 -- the objects from number 0 on, and the most objects, and the most properties and entries in all
@@ -69,8 +69,8 @@ abbrev pub walk : ℕ → List (List ℕ) → ObjectStore → ObjId → Key → 
 walk zero texts s o k = None
 walk (suc n) texts s o k = option_map_or Some (own_of texts s o k) (option_map_or (λ q. walk n texts s q k) (proto_of s o) None)
 
--- the value at the key along the prototypes (OrdinaryGet, ECMA-262 §10.1.8.1); no walk is longer than the
--- list of objects, since each prototype was made before
+-- the value at the key along the prototypes (OrdinaryGet, ECMA-262 §10.1.8.1); a walk looks at no more
+-- objects than there are
 abbrev pub value_of : List (List ℕ) → ObjectStore → ObjId → Key → Option Value
 value_of texts s o k = walk (length s.objects) texts s o k
 
@@ -102,6 +102,10 @@ changed s o f = option_map_or (λ x. record s { objects = slice_set s.objects o.
 -- an object that is frozen (SetIntegrityLevel, ECMA-262 §7.3.15)
 abbrev pub frozen_by : ObjectStore → ObjId → ObjectStore
 frozen_by s o = changed s o (λ x. record x { frozen = true })
+
+-- an object with this prototype (OrdinarySetPrototypeOf, ECMA-262 §10.1.2.1)
+abbrev pub with_proto : ObjectStore → ObjId → ObjId → ObjectStore
+with_proto s o p = changed s o (λ x. record x { proto = standing s (Some p) })
 
 -- the value under a normal key of a Map or a Set
 abbrev pub placed_of : ObjectStore → ObjId → Value → Option Value

@@ -1,5 +1,5 @@
 -- The entries of a Map or a Set as slots, one for each place: an entry that was dropped leaves its slot empty.
-use Rattle.std.specs.Prelude.{◌≡◌, ℕ, zero, suc, ◌≤◌, ◌<◌, List, [], ◌∷◌, Option, Some, None, length, slice_get}
+use Rattle.std.specs.Prelude.{◌≡◌, ℕ, zero, suc, List, [], ◌∷◌, Option, Some, None, length, slice_get}
 use Rattle.actx_value.specs.declared.value.Value.{Value}
 use Rattle.actx_objects.specs.declared.slot.Slot.{Slot}
 use Rattle.actx_objects.specs.declared.entries.Placed.{Placed}
@@ -13,6 +13,11 @@ abbrev pub standing_from : ℕ → List (Option Slot) → List (Value × Placed)
 standing_from p [] = []
 standing_from p (None ∷ slots) = standing_from (suc p) slots
 standing_from p (Some s ∷ slots) = entry_at p s ∷ standing_from (suc p) slots
+
+-- so many empty slots
+abbrev pub blanks : ℕ → List (Option Slot)
+blanks zero = []
+blanks (suc n) = None ∷ blanks n
 
 -- the slots' entries are found by their keys, and nothing else is; `count` of them stand
 pub record IsFound (find : Value → Option ℕ) (slots : List (Option Slot)) (count : ℕ) : Type 0 where

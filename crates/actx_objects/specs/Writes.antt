@@ -1,5 +1,5 @@
 -- Writes to the properties of an object, and what refuses them.
-use Rattle.std.specs.Prelude.{◌≡◌, ℕ, Bool, true, false, not, ◌&&◌, nat_le, nat_lt, pos, negsuc, List, slice_set, take, Option, Some, None, if◌then◌else◌, is_some, is_none}
+use Rattle.std.specs.Prelude.{◌≡◌, ℕ, Bool, false, not, ◌&&◌, nat_le, nat_lt, pos, List, take, Option, Some, None, if◌then◌else◌, is_some, is_none}
 use Rattle.std.specs.declared.result.Result.{Result}
 use Rattle.std.specs.declared.result.Result.TheVariants.{Ok, Err}
 use Rattle.actx_value.specs.declared.value.Key.{Key}

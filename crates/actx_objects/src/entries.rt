@@ -2,7 +2,8 @@
 
 ghost use Rattle.std.specs.Prelude.{◌≡◌, ◌<◌, [], Some, None, length, slice_get, OnOk, OnErr};
 ghost use Rattle.std.specs.Option.{option_map};
-ghost use Rattle.actx_objects.specs.Entries.{entry_in, with_entry, without_entry, first_from, StandInOrder};
+ghost use Rattle.actx_objects.specs.Entries.{entry_in, with_entry, without_entry, none_standing, first_from, StandInOrder};
+ghost use Rattle.actx_objects.specs.Slots.{blanks};
 ghost use Rattle.actx_objects.specs.declared.entries.Placed.{Placed};
 
 use crate::slot::{Places, Slot};
@@ -129,6 +130,15 @@ impl Entries {
         }
     }
 
+    /// Drops all entries. Their places stay given.
+    pub(crate) fn clear(&mut self)
+        ensures { self.new ≡ none_standing self.old }
+    {
+        self.places.clear();
+        empty_slots(&mut self.slots);
+        self.count = 0;
+    }
+
     /// The first entry whose place is at least this one, as its place, its key and its value. It takes one
     /// step for each empty slot before it.
     pub(crate) fn first_from(&self, place: u64) -> Option<(u64, Value, Value)>
@@ -144,5 +154,14 @@ impl Entries {
             }
         }
         None
+    }
+}
+
+/// Empties all slots.
+fn empty_slots(slots: &mut Vec<Option<Slot>>)
+    ensures { slots.new.items ≡ blanks (length slots.old.items) }
+{
+    for p in 0..slots.len() {
+        slots[p] = None;
     }
 }

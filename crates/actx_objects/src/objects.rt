@@ -3,7 +3,7 @@
 ghost use Rattle.std.specs.Prelude.{◌≡◌, ◌≤◌, ◌<◌, ◌↔◌, [], true, false, is_some, length, IfOk, OnOk, OnErr, IsTrue, IsErrOf};
 ghost use Rattle.std.specs.Result.{result_err};
 ghost use Rattle.actx_objects.specs.Kinds.{is_array};
-ghost use Rattle.actx_objects.specs.Objects.{kind_of, proto_of, is_frozen, width_of, prop_of, own_of, made, frozen_by, keys_of, value_of, is_there, is_array_length, size_of, entry_of, placed_of};
+ghost use Rattle.actx_objects.specs.Objects.{kind_of, proto_of, is_frozen, width_of, prop_of, own_of, made, standing, with_proto, frozen_by, keys_of, value_of, property_count, is_there, is_array_length, size_of, entry_of, placed_of};
 ghost use Rattle.actx_objects.specs.Writes.{has_no_room, with_property, cut, removed, refusal_of, IsRefusedBy, written, has_own, deleted, delete_refusal, push_refusal, pushed};
 
 use crate::array::{array_refusal, length_in};
@@ -113,6 +113,44 @@ impl Objects {
             Some(object) => object.proto,
             None => None,
         }
+    }
+
+    /// A prototype that isn't there is none.
+    fn standing(&self, proto: ObjId) -> Option<ObjId>
+        ensures { result ≡ standing self.now (Some proto) }
+    {
+        if (proto.0 as usize) < self.items.len() {
+            Some(proto)
+        } else {
+            None
+        }
+    }
+
+    /// Gives an object this prototype, in place of the one that it has (OrdinarySetPrototypeOf, ECMA-262
+    /// §10.1.2.1). A prototype that isn't there is none.
+    pub fn set_proto(&mut self, o: ObjId, proto: ObjId)
+        ensures { self.new ≡ with_proto self.old o proto }
+    {
+        let proto = self.standing(proto);
+        let i = o.0 as usize;
+        if i < self.items.len() {
+            let object = &mut self.items[i];
+            object.proto = proto;
+        }
+    }
+
+    /// How many objects there are.
+    pub fn count(&self) -> u64
+        ensures { result ≡ length self.now.objects }
+    {
+        self.items.len() as u64
+    }
+
+    /// How many properties and entries count against their limit.
+    pub fn property_count(&self) -> u64
+        ensures { result ≡ property_count self.now.objects }
+    {
+        self.total
     }
 
     /// Whether an object is frozen.

@@ -60,6 +60,13 @@ impl Places {
         Ok(())
     }
 
+    /// Takes all keys out.
+    pub(crate) fn clear(&mut self)
+        ensures { self.new ≡ [] }
+    {
+        self.map.clear();
+    }
+
     /// Takes a key out. It takes the same time for every key.
     pub(crate) fn remove(&mut self, key: Value)
         ensures { (q : OneValue) → at_key value_eq q self.new ≡ (if value_eq key q then None else at_key value_eq q self.old) }

@@ -5,7 +5,7 @@ ghost use Rattle.actx_objects.specs.Kinds.{is_collection};
 ghost use Rattle.actx_objects.specs.Objects.{kind_of, is_there, size_of, placed_of, entry_of, entries_of, entry_from, entry_put, entry_dropped, has_no_place};
 ghost use Rattle.actx_objects.specs.Entries.{StandInOrder};
 ghost use Rattle.actx_objects.specs.Writes.{IsRefusedBy};
-ghost use Rattle.actx_objects.specs.Collections.{put_refusal, has_entry, entry_written, entry_left};
+ghost use Rattle.actx_objects.specs.Collections.{put_refusal, has_entry, entry_written, entry_left, entries_cleared};
 
 use super::Objects;
 use crate::kind::{is_array, is_collection};
@@ -127,6 +127,18 @@ impl Objects {
         }
         self.drop_entry(o, key);
         true
+    }
+
+    /// Drops all entries of a Map or a Set (Map.prototype.clear, ECMA-262 §24.1.3.1; Set.prototype.clear,
+    /// §24.2.4.2). They still count against the limit, and their places stay given.
+    pub fn entries_clear(&mut self, o: ObjId)
+        ensures { self.new ≡ entries_cleared self.old o }
+    {
+        let i = o.0 as usize;
+        if i < self.items.len() {
+            let object = &mut self.items[i];
+            object.entries.clear();
+        }
     }
 
     /// The first entry of a Map or a Set whose place is at least `place`, as its place, its key and its

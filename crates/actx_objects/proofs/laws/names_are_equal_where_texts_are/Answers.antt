@@ -1,6 +1,6 @@
-use Rattle.std.proofs.Common.{◌≡◌, ◌↔◌, ℕ, true, nat_eq, List, arith}
+use Rattle.std.proofs.Common.{◌≡◌, ℕ, true, nat_eq, arith}
 use Rattle.std.proofs.lemmas.Bool.Decides.{nat_tests}
-use Rattle.actx_value.specs.Texts.{least_number, text_at}
+use Rattle.actx_value.specs.Texts.{least_number}
 use Rattle.actx_objects.proofs.laws.names_are_equal_where_texts_are.Goals as goal
 
 tested : (m n : ℕ) → nat_eq m n ≡ true → m ≡ n

@@ -2,7 +2,6 @@ use Rattle.std.proofs.Common.{[], ap, ◌∙◌, unwrap_or}
 use Rattle.std.proofs.lemmas.Option.{unwrap_or-slice_get}
 use Rattle.std.specs.Prelude.{codes}
 use Rattle.actx_value.specs.Texts.{texts_eq}
-use Rattle.actx_objects.specs.Keys.{is_length}
 use Rattle.actx_objects.proofs.normal.is_length.Goals as goal
 
 pub returns-in-None : goal.returns-in-None

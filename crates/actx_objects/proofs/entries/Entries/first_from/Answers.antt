@@ -1,4 +1,4 @@
-use Rattle.std.proofs.Common.{◌≡◌, ◌≤◌, List, Option, length, sym, ◌∙◌, arith}
+use Rattle.std.proofs.Common.{◌≤◌, List, Option, length, sym, ◌∙◌, arith}
 use Rattle.actx_objects.specs.declared.slot.Slot.{Slot}
 use Rattle.actx_objects.proofs.SeenLemmas.{first_skips, first_over}
 use Rattle.actx_objects.proofs.entries.Entries.first_from.Goals as goal

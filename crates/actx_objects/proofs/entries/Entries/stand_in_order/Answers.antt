@@ -1,4 +1,4 @@
-use Rattle.std.proofs.Common.{◌≡◌, ◌<◌, ℕ, List, Option, length, arith}
+use Rattle.std.proofs.Common.{◌≡◌, ◌<◌, List, Option, length, arith}
 use Rattle.actx_objects.specs.declared.slot.Slot.{Slot}
 use Rattle.actx_objects.specs.Entries.{EntryList, StandInOrder}
 use Rattle.actx_objects.specs.Slots.{standing_from}

@@ -1,4 +1,4 @@
-use Rattle.std.proofs.Common.{◌≡◌, ◌≤◌, refl, slice_set, sym, ap, ◌∙◌, arith}
+use Rattle.std.proofs.Common.{◌≤◌, refl, slice_set, sym, ap, ◌∙◌, arith}
 use Rattle.std.proofs.Math.ListN.{length-set}
 use Rattle.actx_objects.specs.Objects.{ObjectStore, property_count}
 use Rattle.actx_objects.specs.declared.object.Object.{Object}

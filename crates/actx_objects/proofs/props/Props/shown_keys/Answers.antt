@@ -1,4 +1,4 @@
-use Rattle.std.proofs.Common.{◌≡◌, sym, ap, ◌∙◌, ◌++◌, drop, ◌+◌}
+use Rattle.std.proofs.Common.{ap, ◌∙◌, ◌++◌, drop, ◌+◌}
 use Rattle.actx_objects.specs.Properties.{shown_keys}
 use Rattle.actx_objects.proofs.ShownLemmas.{shown_next}
 use Rattle.actx_objects.proofs.props.Props.shown_keys.Goals as goal

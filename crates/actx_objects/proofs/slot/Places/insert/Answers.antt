@@ -1,4 +1,4 @@
-use Rattle.std.proofs.Common.{◌≡◌, Some, cond, ap, ◌∙◌}
+use Rattle.std.proofs.Common.{Some, cond, ap, ◌∙◌}
 use Rattle.actx_objects.specs.Keys.{value_eq}
 use Rattle.actx_objects.specs.Pairs.{at_key}
 use Rattle.actx_objects.proofs.PairLemmas.{update_is}

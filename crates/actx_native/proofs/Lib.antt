@@ -1,3 +1,0 @@
-mod Above
-mod EntryLemmas
-mod EntryOutcomes

@@ -1,4 +1,0 @@
-pub mod Outcomes
-pub mod Limits
-pub mod Receivers
-pub mod Collections

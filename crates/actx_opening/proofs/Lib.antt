@@ -1,3 +1,4 @@
 mod Freezes
 mod Literals
+mod Protos
 mod Tables

@@ -10,7 +10,7 @@ use Rattle.actx_opening.specs.declared.held.TheConstants.{HELD}
 use Rattle.actx_opening.specs.declared.named.TheConstants.{NAMED}
 use Rattle.actx_opening.specs.Words.{words, lines_from}
 use Rattle.actx_opening.specs.Texts.{added}
-use Rattle.actx_opening.specs.Starts.{starts, started}
+use Rattle.actx_opening.specs.Starts.{starts, started, with_protos}
 use Rattle.actx_opening.specs.Members.{held, named, members, with_member}
 use Rattle.actx_opening.specs.Opening.{filled, member_count, are_apart, is_apart}
 
@@ -38,15 +38,15 @@ words_added s t u h k =
     ∙ ap (λ (ws : List (List ℕ)). let y : TextStore = record { texts = fold added s.texts ws; limit = s.limit } in y) words_are
 
 -- the objects with their properties
-pub filled_are : (texts : List (List ℕ)) (first : ℕ) (s t u : ObjectStore) → t ≡ fold started s STARTS → u ≡ fold (with_member texts first) t HELD
+pub filled_are : (texts : List (List ℕ)) (first : ℕ) (s t p u : ObjectStore) → t ≡ fold started s STARTS → p ≡ with_protos 0 STARTS t → u ≡ fold (with_member texts first) p HELD
     → fold (with_member texts first) u NAMED ≡ filled texts first s
 unfolding filled
-filled_are texts first s t u h k =
+filled_are texts first s t p u h g k =
     ap (λ z. fold (with_member texts first) z NAMED) k
-    ∙ ap (λ z. fold (with_member texts first) (fold (with_member texts first) z HELD) NAMED) (h ∙ ap (λ ss. fold started s ss) starts_are)
-    ∙ ap (λ ms. fold (with_member texts first) (fold (with_member texts first) (fold started s starts) ms) NAMED) held_are
-    ∙ ap (λ ms. fold (with_member texts first) (fold (with_member texts first) (fold started s starts) held) ms) named_are
-    ∙ sym (fold-append (with_member texts first) (fold started s starts) held named)
+    ∙ ap (λ z. fold (with_member texts first) (fold (with_member texts first) z HELD) NAMED) (g ∙ ap (λ z. with_protos 0 STARTS z) h ∙ ap (λ ss. with_protos 0 ss (fold started s ss)) starts_are)
+    ∙ ap (λ ms. fold (with_member texts first) (fold (with_member texts first) (with_protos 0 starts (fold started s starts)) ms) NAMED) held_are
+    ∙ ap (λ ms. fold (with_member texts first) (fold (with_member texts first) (with_protos 0 starts (fold started s starts)) held) ms) named_are
+    ∙ sym (fold-append (with_member texts first) (with_protos 0 starts (fold started s starts)) held named)
 
 pub member_count_is : 297 ≡ member_count
 unfolding member_count held named words

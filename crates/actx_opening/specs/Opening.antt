@@ -6,7 +6,7 @@ use Rattle.actx_value.specs.Texts.{TextStore, units_of}
 use Rattle.actx_objects.specs.Objects.{ObjectStore, frozen_by}
 use Rattle.actx_table.specs.Table.{count}
 use Rattle.actx_opening.specs.declared.member.Member.{Member}
-use Rattle.actx_opening.specs.Starts.{starts, started}
+use Rattle.actx_opening.specs.Starts.{starts, started, with_protos}
 use Rattle.actx_opening.specs.Members.{members, with_member}
 use Rattle.actx_opening.specs.Texts.{with_literals, opening_texts}
 
@@ -15,9 +15,9 @@ unfoldable pub frozen_to : ℕ → ObjectStore → ObjectStore
 frozen_to zero s = s
 frozen_to (suc n) s = frozen_by (frozen_to n s) (record { 0 = n })
 
--- the objects of an empty store with their properties, where `first` is the number of the first word
+-- the built-in objects with their prototypes and properties, where `first` is the number of the first word
 unfoldable pub filled : List (List ℕ) → ℕ → ObjectStore → ObjectStore
-filled texts first s = fold (with_member texts first) (fold started s starts) members
+filled texts first s = fold (with_member texts first) (with_protos 0 starts (fold started s starts)) members
 
 -- how many properties there are, no two of which have the same holder and the same name
 unfoldable pub member_count : ℕ

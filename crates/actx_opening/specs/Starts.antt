@@ -1,12 +1,13 @@
 -- The built-in objects before they have properties. A function is of kind Native, whoever answers it, and any other object is
 -- Plain.
-use Rattle.std.specs.Prelude.{ℕ, Bool, List, [], ◌∷◌, ◌++◌, map, Option, Some, None, is_some, codes, if◌then◌else◌}
+use Rattle.std.specs.Prelude.{ℕ, suc, Bool, List, [], ◌∷◌, ◌++◌, map, Option, Some, None, is_some, codes, if◌then◌else◌}
 use Rattle.std.specs.List.{find}
 use Rattle.std.specs.Option.{option_map_or, option_and_then}
 use Rattle.actx_value.specs.Texts.{texts_eq}
+use Rattle.actx_value.specs.declared.ids.ObjId.{ObjId}
 use Rattle.actx_objects.specs.declared.kind.Kind.{Kind}
 use Rattle.actx_objects.specs.declared.kind.Kind.TheVariants.{Plain, Native}
-use Rattle.actx_objects.specs.Objects.{ObjectStore, made}
+use Rattle.actx_objects.specs.Objects.{ObjectStore, made, with_proto}
 use Rattle.actx_table.specs.Table.{Row, rows}
 use Rattle.actx_table.specs.Globals.{object_at}
 use Rattle.actx_opening.specs.declared.start.Start.{Start}
@@ -42,6 +43,15 @@ start_of r = record { 0 = kind_in r; 1 = option_and_then object_at (proto_path r
 unfoldable pub starts : List Start
 starts = map start_of rows
 
--- one more object. A prototype that isn't there yet is none
+-- one more object, without a prototype: that of the first ones is made later
 unfoldable pub started : ObjectStore → Start → ObjectStore
-started s x = made s x.0 x.1
+started s x = made s x.0 None
+
+-- an object with its prototype
+unfoldable pub with_its_proto : ObjectStore → ObjId → Start → ObjectStore
+with_its_proto s o x = option_map_or (λ p. with_proto s o p) x.1 s
+
+-- the objects from this number on with their prototypes
+unfoldable pub with_protos : ℕ → List Start → ObjectStore → ObjectStore
+with_protos o [] s = s
+with_protos o (x ∷ xs) s = with_protos (suc o) xs (with_its_proto s (record { 0 = o }) x)

@@ -8,7 +8,7 @@ ghost use Rattle.actx_opening.specs.Opening.{frozen_to, filled, emptied, member_
 use crate::held::HELD;
 use crate::member::put_all;
 use crate::named::NAMED;
-use crate::start::make_all;
+use crate::start::{give_protos, make_all};
 use crate::starts::STARTS;
 use crate::texts::{Worded, opening_texts, opening_units};
 use actx_code::Code;
@@ -41,6 +41,7 @@ fn fill(objects: &mut Objects, texts: &Texts, first: u32) -> Result<(), AllocErr
     ensures { OnOk result (objects.new ≡ filled texts.now.texts first objects.old) }
 {
     make_all(objects, &STARTS)?;
+    give_protos(objects, &STARTS);
     put_all(objects, texts, first, &HELD)?;
     put_all(objects, texts, first, &NAMED)
 }

@@ -51,6 +51,8 @@ fn opened(rt: HostRuntime) -> Result<(), Fail> {
     assert_eq!(rt; store.objects.kind(ObjId(34)), Kind::Native);
     assert_eq!(rt; store.objects.kind(ObjId(33)), Kind::Plain);
     assert_eq!(rt; store.objects.proto(ObjId(34)), Some(ObjId(25)));
+    assert_eq!(rt; store.objects.proto(ObjId(0)), Some(ObjId(24)));
+    assert_eq!(rt; store.objects.proto(ObjId(1)), Some(ObjId(25)));
     assert_eq!(rt; store.objects.proto(ObjId(79)), Some(ObjId(77)));
     assert_eq!(rt; store.objects.proto(ObjId(24)), None);
     assert_eq!(rt; listed(&store, 33)?, 0);

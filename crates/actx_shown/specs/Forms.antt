@@ -120,3 +120,12 @@ form levels texts s v = form_with (container_at levels texts s) texts s v
 abbrev pub shown : List (List ℕ) → ObjectStore → Value → List ℕ
 shown texts s (Text t) = text_at texts t.0
 shown texts s v = form 3 texts s v
+
+-- arguments after the first one, each after a space
+abbrev pub more_shown : List (List ℕ) → ObjectStore → List Value → List ℕ
+more_shown texts s vs = flat_map (λ v. codes " " ++ shown texts s v) vs
+
+-- the line of `console.log`: its arguments with a space between each two
+abbrev pub line : List (List ℕ) → ObjectStore → List Value → List ℕ
+line texts s [] = []
+line texts s (v ∷ vs) = shown texts s v ++ more_shown texts s vs

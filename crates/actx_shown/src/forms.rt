@@ -147,6 +147,58 @@ fn push_item(
     }
 }
 
+/// Puts what `console.log` writes of an argument at the end.
+fn push_shown(
+    alloc: Global,
+    out: &mut Vec<u16>,
+    texts: &Texts,
+    objects: &Objects,
+    v: Value,
+) -> Result<(), AllocError>
+    ensures { OnOk result (out.new.items ≡ out.old.items ++ forms.shown texts.now.texts objects.now v) }
+{
+    match v {
+        Value::Text(t) => out.extend_from_slice(units_of(texts, t)),
+        other => push_form(alloc, out, texts, objects, other, LEVELS),
+    }
+}
+
+/// Puts arguments at the end, each after a space.
+fn push_more(
+    alloc: Global,
+    out: &mut Vec<u16>,
+    texts: &Texts,
+    objects: &Objects,
+    args: &[Value],
+) -> Result<(), AllocError>
+    ensures { OnOk result (out.new.items ≡ out.old.items ++ forms.more_shown texts.now.texts objects.now args.now) }
+{
+    for v in args {
+        push_ascii(out, b" ")?;
+        push_shown(alloc, out, texts, objects, *v)?;
+    }
+    Ok(())
+}
+
+/// Puts arguments at the end, with a space between each two.
+fn push_args(
+    alloc: Global,
+    out: &mut Vec<u16>,
+    texts: &Texts,
+    objects: &Objects,
+    args: &[Value],
+) -> Result<(), AllocError>
+    ensures { OnOk result (out.new.items ≡ out.old.items ++ forms.line texts.now.texts objects.now args.now) }
+{
+    match args.split_first() {
+        Some((first, rest)) => {
+            push_shown(alloc, out, texts, objects, *first)?;
+            push_more(alloc, out, texts, objects, rest)
+        }
+        None => Ok(()),
+    }
+}
+
 /// What `console.log` writes of an argument: a text as it is, and any other value in its printed form.
 ///
 /// # Errors
@@ -155,9 +207,24 @@ pub fn shown(alloc: Global, texts: &Texts, objects: &Objects, v: Value) -> Resul
     ensures { IfOk result (λ text. text ≡ forms.shown texts.now.texts objects.now v) }
 {
     let mut out = Vec::new(alloc);
-    match v {
-        Value::Text(t) => out.extend_from_slice(units_of(texts, t))?,
-        other => push_form(alloc, &mut out, texts, objects, other, LEVELS)?,
-    }
+    push_shown(alloc, &mut out, texts, objects, v)?;
+    Ok(from_units(out))
+}
+
+/// The line that `console.log` writes of its arguments, without a line feed: each as `shown` gives it, with a space
+/// between each two.
+///
+/// # Errors
+/// Only want of memory.
+pub fn line(
+    alloc: Global,
+    texts: &Texts,
+    objects: &Objects,
+    args: &[Value],
+) -> Result<Units, AllocError>
+    ensures { IfOk result (λ text. text ≡ forms.line texts.now.texts objects.now args.now) }
+{
+    let mut out = Vec::new(alloc);
+    push_args(alloc, &mut out, texts, objects, args)?;
     Ok(from_units(out))
 }

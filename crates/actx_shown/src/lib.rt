@@ -10,7 +10,7 @@ mod pushes;
 mod quotes;
 mod reads;
 
-pub use forms::shown;
+pub use forms::{line, shown};
 pub use items::Item;
 
 #[cfg(test)]

@@ -1,4 +1,4 @@
-//! Printed forms, taken from Node where it writes the same.
+//! Printed forms, whose text was written by hand.
 
 use super::*;
 use actx_objects::{Kind, Objects};
@@ -52,31 +52,58 @@ fn prints(alloc: Global, store: &Store, v: Value, form: &[u8]) -> Result<bool, F
     ))
 }
 
-#[test]
-fn a_map_as_an_array(rt: HostRuntime) -> Result<(), Fail> {
-    let a = rt.alloc();
-    let mut store = empty(a);
-    let x = text(a, &mut store, b"x")?;
-    let inner = array(&mut store, &[Value::Num(1), x])?;
-    let o = store.objects.make(Kind::Plain, None)?;
-    set(a, &mut store, o, b"a", inner)?;
-    let k = text(a, &mut store, b"k")?;
-    let j = text(a, &mut store, b"j")?;
-    let first = array(&mut store, &[k, Value::Num(1)])?;
-    let second = array(&mut store, &[j, Value::Object(o)])?;
-    let all = array(&mut store, &[first, second])?;
-    assert!(rt; prints(a, &store, Value::Num(2), b"2")?);
-    assert!(rt; prints(a, &store, all, b"[ [ 'k', 1 ], [ 'j', { a: [Array] } ] ]")?);
-    assert!(rt; prints(a, &store, x, b"x")?);
-    Ok(())
-}
-
 // Puts an entry into a Map or a Set.
 fn put(store: &mut Store, o: ObjId, key: Value, v: Value) -> Result<(), Fail> {
     match store.objects.kind(o) {
         Kind::Map | Kind::Set => Ok(store.objects.entry_put(o, key, v, &store.texts)?),
         _ => Ok(()),
     }
+}
+
+// The array of the entries of a Map, of which one is an object with an array.
+fn entries(a: Global, store: &mut Store) -> Result<Value, Fail> {
+    let x = text(a, store, b"x")?;
+    let inner = array(store, &[Value::Num(1), x])?;
+    let o = store.objects.make(Kind::Plain, None)?;
+    set(a, store, o, b"a", inner)?;
+    let k = text(a, store, b"k")?;
+    let j = text(a, store, b"j")?;
+    let first = array(store, &[k, Value::Num(1)])?;
+    let second = array(store, &[j, Value::Object(o)])?;
+    array(store, &[first, second])
+}
+
+// A Set of one value.
+fn set_of(store: &mut Store, v: Value) -> Result<Value, Fail> {
+    let o = store.objects.make(Kind::Set, None)?;
+    put(store, o, v, v)?;
+    Ok(Value::Object(o))
+}
+
+// Whether arguments have this line.
+fn prints_line(alloc: Global, store: &Store, args: &[Value], form: &[u8]) -> Result<bool, Fail> {
+    Ok(same(
+        &line(alloc, &store.texts, &store.objects, args)?,
+        &from_utf8(alloc, form)?,
+    ))
+}
+
+#[test]
+fn a_line_of_three_arguments(rt: HostRuntime) -> Result<(), Fail> {
+    let a = rt.alloc();
+    let mut store = empty(a);
+    let all = entries(a, &mut store)?;
+    let three = set_of(&mut store, Value::Num(3))?;
+    assert!(rt;
+        prints_line(
+            a,
+            &store,
+            &[Value::Num(2), all, three],
+            b"2 [ [ 'k', 1 ], [ 'j', { a: [Array] } ] ] Set(1) { 3 }"
+        )?
+    );
+    assert!(rt; prints_line(a, &store, &[], b"")?);
+    Ok(())
 }
 
 #[test]

@@ -1,3 +1,4 @@
+mod Counts
 mod Freezes
 mod Literals
 mod Protos

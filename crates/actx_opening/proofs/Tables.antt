@@ -12,7 +12,7 @@ use Rattle.actx_opening.specs.Words.{words, lines_from}
 use Rattle.actx_opening.specs.Texts.{added}
 use Rattle.actx_opening.specs.Starts.{starts, started, with_protos}
 use Rattle.actx_opening.specs.Members.{held, named, members, with_member}
-use Rattle.actx_opening.specs.Opening.{filled, member_count, are_apart, is_apart}
+use Rattle.actx_opening.specs.Opening.{filled, are_apart, is_apart}
 
 pub words_are : codes "length" ∷ lines_from [] WORDS ≡ words
 unfolding words
@@ -47,10 +47,6 @@ filled_are texts first s t p u h g k =
     ∙ ap (λ ms. fold (with_member texts first) (fold (with_member texts first) (with_protos 0 starts (fold started s starts)) ms) NAMED) held_are
     ∙ ap (λ ms. fold (with_member texts first) (fold (with_member texts first) (with_protos 0 starts (fold started s starts)) held) ms) named_are
     ∙ sym (fold-append (with_member texts first) (with_protos 0 starts (fold started s starts)) held named)
-
-pub member_count_is : 297 ≡ member_count
-unfolding member_count held named words
-member_count_is = refl
 
 pub all_apart : are_apart members ≡ true
 unfolding are_apart is_apart held named words

@@ -12,7 +12,7 @@ mod words;
 
 pub use member::{Given, Member};
 pub use start::Start;
-pub use store::{Store, members_are_apart, opening};
+pub use store::{Store, built_ins_come_first, members_are_apart, opening};
 
 #[cfg(test)]
 mod tests;

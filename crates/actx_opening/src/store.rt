@@ -1,9 +1,10 @@
 //! The opening store.
 
-ghost use Rattle.std.specs.Prelude.{◌≡◌, true, ◌<◌, ◌+◌, IfOk, OnOk};
+ghost use Rattle.std.specs.Prelude.{◌≡◌, ℕ, List, true, ◌<◌, ◌+◌, length, IfOk, OnOk};
+ghost use Rattle.actx_objects.specs.Objects.{property_count};
 ghost use Rattle.actx_table.specs.Table.{count};
 ghost use Rattle.actx_opening.specs.Members.{members};
-ghost use Rattle.actx_opening.specs.Opening.{frozen_to, filled, emptied, member_count, are_apart, opening_objects, text_store};
+ghost use Rattle.actx_opening.specs.Opening.{frozen_to, filled, objects_in, unbounded, raised, opening_objects, are_apart, text_store};
 
 use crate::held::HELD;
 use crate::member::put_all;
@@ -16,6 +17,9 @@ use actx_objects::Objects;
 use actx_table::built_ins;
 use actx_value::{Limits, ObjId, Texts};
 use std::alloc::{AllocError, Global};
+
+/// The greatest limit that texts and objects take.
+pub(crate) const MOST: u64 = 2_147_483_647;
 
 /// What a run stores.
 #[derive(Drop)]
@@ -46,43 +50,52 @@ fn fill(objects: &mut Objects, texts: &Texts, first: u32) -> Result<(), AllocErr
     put_all(objects, texts, first, &NAMED)
 }
 
-/// How many properties the built-in objects have.
-#[tactic(auto, using(crate::proofs::Tables::member_count_is))]
-fn member_count() -> u64
-    ensures count { result ≡ member_count }
-    ensures few { result < 1000 }
-{
-    297
-}
-
-/// The built-in objects, where `first` is the number of the first word.
-fn built_in_objects(
+/// The built-in objects in a store with these limits, where `first` is the number of the first word.
+fn objects_in(
     alloc: Global,
     texts: &Texts,
     first: u32,
-    limits: &Limits,
+    most_objects: u64,
+    most_properties: u64,
 ) -> Result<Objects, AllocError>
-    ensures { IfOk result (λ objects. objects ≡ frozen_to count (filled texts.now.texts first (emptied limits.now.objects limits.now.properties))) }
+    requires objects { most_objects < 2147483648 }
+    requires properties { most_properties < 2147483648 }
+    ensures { IfOk result (λ objects. objects ≡ objects_in texts.now.texts first most_objects most_properties) }
 {
-    let mut objects = Objects::new(
-        alloc,
-        limits.objects + 161,
-        limits.properties + member_count(),
-    );
+    let mut objects = Objects::new(alloc, most_objects, most_properties);
     fill(&mut objects, texts, first)?;
     freeze_to(&mut objects, built_ins());
     Ok(objects)
 }
 
-/// The limit of texts, raised by the units of the opening store, and an error where it would reach 2^31.
-fn text_limit(units: u64, limits: &Limits) -> Result<u64, AllocError>
-    ensures sum { IfOk result (λ n. n ≡ limits.now.text + units) }
+/// How many objects and properties stand among the built-in ones.
+fn counts(alloc: Global, texts: &Texts, first: u32) -> Result<(u64, u64), AllocError>
+    ensures objects { IfOk result (λ n. n.0 ≡ length (unbounded texts.now.texts first).objects) }
+    ensures properties { IfOk result (λ n. n.1 ≡ property_count (unbounded texts.now.texts first).objects) }
+{
+    let objects = objects_in(alloc, texts, first, MOST, MOST)?;
+    Ok((objects.count(), objects.property_count()))
+}
+
+/// A limit, raised by a count, and an error where it would reach 2^31.
+fn raise(limit: u64, count: u64) -> Result<u64, AllocError>
+    ensures sum { IfOk result (λ n. n ≡ limit + count) }
     ensures below { IfOk result (λ n. n < 2147483648) }
 {
-    match limits.text.checked_add(units) {
-        Some(n) if n < 2_147_483_648 => Ok(n),
+    match limit.checked_add(count) {
+        Some(n) if n <= MOST => Ok(n),
         _ => Err(AllocError),
     }
+}
+
+/// The built-in objects with limits that are raised by what stands there.
+fn raised(alloc: Global, texts: &Texts, first: u32, limits: &Limits) -> Result<Objects, AllocError>
+    ensures { IfOk result (λ objects. objects ≡ raised texts.now.texts first limits.now.objects limits.now.properties) }
+{
+    let (objects, properties) = counts(alloc, texts, first)?;
+    let most_objects = raise(limits.objects, objects)?;
+    let most_properties = raise(limits.properties, properties)?;
+    objects_in(alloc, texts, first, most_objects, most_properties)
 }
 
 /// The opening store of a run of this code under these limits, which are raised by what stands in it.
@@ -94,13 +107,18 @@ pub fn opening(alloc: Global, code: &Code, limits: &Limits) -> Result<Store, All
     ensures objects { IfOk result (λ s. s.objects ≡ opening_objects code.now.literals limits.now.objects limits.now.properties) }
 {
     let units = opening_units(alloc, code)?;
-    let most = text_limit(units, limits)?;
+    let most = raise(limits.text, units)?;
     let Worded { texts, first } = opening_texts(alloc, code, most)?;
-    let objects = built_in_objects(alloc, &texts, first, limits)?;
+    let objects = raised(alloc, &texts, first, limits)?;
     Ok(Store { texts, objects })
 }
 
-/// No two properties of the opening store have the same holder and the same name, so each counts one.
+/// No two properties of the opening store have the same holder and the same name, so none writes over another.
 pub fn members_are_apart()
     ensures { are_apart members ≡ true }
+{}
+
+/// The built-in objects are as many as the table has, so the first object of the run has the next number.
+pub fn built_ins_come_first()
+    ensures { (literals : List (List ℕ)) (objects properties : ℕ) → length (opening_objects literals objects properties).objects ≡ count }
 {}

@@ -6,6 +6,7 @@ ghost use Rattle.actx_value.specs.Texts.{added_number, units_of};
 ghost use Rattle.actx_opening.specs.Words.{lines_from, words};
 ghost use Rattle.actx_opening.specs.Texts.{added, with_literals, opening_texts};
 
+use crate::store::MOST;
 use crate::words::WORDS;
 use actx_code::Code;
 use actx_text::{Units, copy, from_units};
@@ -13,9 +14,6 @@ use actx_value::{TextId, Texts};
 use std::alloc::{AllocError, Global};
 
 const LINE_FEED: u8 = 0x0A;
-
-/// The greatest limit that texts take.
-const MOST: u64 = 2_147_483_647;
 
 /// Adds a text.
 #[tactic(auto, unfolding(crate::specs::Texts::added))]

@@ -10,9 +10,10 @@ mod store;
 mod texts;
 mod words;
 
+pub use actx_table::Store;
 pub use member::{Given, Member};
 pub use start::Start;
-pub use store::{Store, built_ins_come_first, members_are_apart, opening};
+pub use store::{built_ins_come_first, members_are_apart, opening};
 
 #[cfg(test)]
 mod tests;

@@ -14,24 +14,15 @@ use crate::starts::STARTS;
 use crate::texts::{Worded, opening_texts, opening_units};
 use actx_code::Code;
 use actx_objects::Objects;
-use actx_table::built_ins;
+use actx_table::{Store, built_ins};
 use actx_value::{Limits, ObjId, Texts};
 use std::alloc::{AllocError, Global};
 
 /// The greatest limit that texts and objects take.
 pub(crate) const MOST: u64 = 2_147_483_647;
 
-/// What a run stores.
-#[derive(Drop)]
-pub struct Store {
-    /// The texts, by number.
-    pub texts: Texts,
-    /// The objects, by number.
-    pub objects: Objects,
-}
-
-#[tactic(auto, using(crate::proofs::Freezes::none_frozen, crate::proofs::Freezes::one_frozen))]
 /// Freezes the objects below a number.
+#[tactic(auto, using(crate::proofs::Freezes::none_frozen, crate::proofs::Freezes::one_frozen))]
 fn freeze_to(objects: &mut Objects, n: u32)
     ensures { objects.new ≡ frozen_to n objects.old }
 {

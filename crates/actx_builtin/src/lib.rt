@@ -5,7 +5,7 @@
 mod modules;
 mod printed;
 
-pub use actx_opening::{built_ins_come_first, members_are_apart, opening};
+pub use actx_opening::opening;
 pub use actx_table::{Built, NativeId, Proto, Store, built_ins, callable, global, prototype, word};
 pub use modules::module;
 pub use printed::{line, shown};

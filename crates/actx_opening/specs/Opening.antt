@@ -1,8 +1,9 @@
 -- The opening store: the texts, and the built-in objects by number with their hidden properties, each frozen. Its limits are
 -- those of the run, raised by what stands in it.
-use Rattle.std.specs.Prelude.{ℕ, zero, suc, ◌+◌, Bool, true, not, ◌&&◌, nat_eq, List, [], ◌∷◌, length}
+use Rattle.std.specs.Prelude.{ℕ, zero, suc, ◌+◌, Bool, true, not, ◌&&◌, nat_eq, List, [], ◌∷◌, map, length}
 use Rattle.std.specs.List.{fold, list_any}
 use Rattle.actx_value.specs.Texts.{TextStore, units_of}
+use Rattle.actx_objects.specs.declared.kind.Kind.{Kind}
 use Rattle.actx_objects.specs.Objects.{ObjectStore, property_count, frozen_by}
 use Rattle.actx_table.specs.Table.{count}
 use Rattle.actx_opening.specs.declared.member.Member.{Member}
@@ -44,6 +45,10 @@ raised texts first objects properties =
 abbrev pub opening_objects : List (List ℕ) → ℕ → ℕ → ObjectStore
 opening_objects literals objects properties =
     raised (opening_texts literals) (length (with_literals literals)) objects properties
+
+-- the kinds of the objects, by number
+abbrev pub kinds_of : ObjectStore → List Kind
+kinds_of s = map (λ x. x.kind) s.objects
 
 abbrev pub text_store : List (List ℕ) → ℕ → TextStore
 text_store literals units = record { texts = opening_texts literals; limit = units + units_of (opening_texts literals) }

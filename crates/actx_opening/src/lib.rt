@@ -2,6 +2,7 @@
 #![tactic(auto)]
 
 mod held;
+mod laws;
 mod member;
 mod named;
 mod start;
@@ -11,9 +12,13 @@ mod texts;
 mod words;
 
 pub use actx_table::Store;
+pub use laws::{
+    built_ins_come_first, kinds_are_those_of_the_table, members_are_apart, texts_stand_in_order,
+    words_are_there,
+};
 pub use member::{Given, Member};
 pub use start::Start;
-pub use store::{built_ins_come_first, members_are_apart, opening};
+pub use store::opening;
 
 #[cfg(test)]
 mod tests;

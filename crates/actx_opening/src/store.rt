@@ -1,10 +1,8 @@
 //! The opening store.
 
-ghost use Rattle.std.specs.Prelude.{◌≡◌, ℕ, List, true, ◌<◌, ◌+◌, length, IfOk, OnOk};
+ghost use Rattle.std.specs.Prelude.{◌≡◌, ◌<◌, ◌+◌, length, IfOk, OnOk};
 ghost use Rattle.actx_objects.specs.Objects.{property_count};
-ghost use Rattle.actx_table.specs.Table.{count};
-ghost use Rattle.actx_opening.specs.Members.{members};
-ghost use Rattle.actx_opening.specs.Opening.{frozen_to, filled, objects_in, unbounded, raised, opening_objects, are_apart, text_store};
+ghost use Rattle.actx_opening.specs.Opening.{frozen_to, filled, objects_in, unbounded, raised, opening_objects, text_store};
 
 use crate::held::HELD;
 use crate::member::put_all;
@@ -103,13 +101,3 @@ pub fn opening(alloc: Global, code: &Code, limits: &Limits) -> Result<Store, All
     let objects = raised(alloc, &texts, first, limits)?;
     Ok(Store { texts, objects })
 }
-
-/// No two properties of the opening store have the same holder and the same name, so none writes over another.
-pub fn members_are_apart()
-    ensures { are_apart members ≡ true }
-{}
-
-/// The built-in objects are as many as the table has, so the first object of the run has the next number.
-pub fn built_ins_come_first()
-    ensures { (literals : List (List ℕ)) (objects properties : ℕ) → length (opening_objects literals objects properties).objects ≡ count }
-{}

@@ -1,5 +1,5 @@
 -- How many objects there are after each step.
-use Rattle.std.proofs.Common.{◌≡◌, ℕ, zero, suc, ◌+◌, cond, Bool, true, false, List, [], ◌∷◌, ◌++◌, length, slice_set, Option, Some, None, refl, sym, ap, ◌∙◌, arith}
+use Rattle.std.proofs.Common.{◌≡◌, ℕ, zero, suc, ◌+◌, cond, Bool, true, false, List, [], ◌∷◌, length, slice_set, Option, Some, None, refl, ◌∙◌, arith}
 use Rattle.std.proofs.Math.ListN.{length-set}
 use Rattle.std.proofs.lemmas.List.{length-append}
 use Rattle.std.specs.List.{fold}
@@ -10,9 +10,9 @@ use Rattle.actx_value.specs.declared.value.Key.TheVariants.{Name}
 use Rattle.actx_value.specs.declared.value.Value.{Value}
 use Rattle.actx_objects.specs.declared.object.Object.{Object}
 use Rattle.actx_objects.specs.Keys.{normal_key}
-use Rattle.actx_objects.specs.Objects.{ObjectStore, object_at, changed, made, with_proto, is_array_length}
+use Rattle.actx_objects.specs.Objects.{ObjectStore, object_at, changed, with_proto, is_array_length}
 use Rattle.actx_objects.specs.Writes.{cut_to, length_in, with_property, written}
-use Rattle.actx_table.specs.Table.{rows, count}
+use Rattle.actx_table.specs.Table.{count}
 use Rattle.actx_opening.specs.declared.start.Start.{Start}
 use Rattle.actx_opening.specs.declared.member.Member.{Member}
 use Rattle.actx_opening.specs.Starts.{starts, started, with_its_proto, with_protos}

@@ -1,5 +1,5 @@
 -- One more object is frozen.
-use Rattle.std.proofs.Common.{◌≡◌, ℕ, suc, ◌+◌, refl, ap, arith}
+use Rattle.std.proofs.Common.{◌≡◌, ℕ, suc, ◌+◌, refl, arith}
 use Rattle.actx_objects.specs.Objects.{ObjectStore, frozen_by}
 use Rattle.actx_opening.specs.Opening.{frozen_to}
 

@@ -1,5 +1,5 @@
 -- The kinds of the objects after each step.
-use Rattle.std.proofs.Common.{◌≡◌, ℕ, zero, suc, ◌+◌, cond, Bool, true, false, List, [], ◌∷◌, ◌++◌, map, length, slice_get, slice_set, Option, Some, None, refl, sym, ap, ◌∙◌, append_assoc}
+use Rattle.std.proofs.Common.{◌≡◌, ℕ, zero, suc, ◌+◌, cond, Bool, true, false, List, [], ◌∷◌, ◌++◌, map, slice_get, slice_set, Option, Some, None, refl, sym, ap, ◌∙◌, append_assoc}
 use Rattle.std.proofs.lemmas.List.{append-nil}
 use Rattle.std.specs.List.{fold}
 use Rattle.std.specs.Option.{option_map_or}
@@ -7,10 +7,9 @@ use Rattle.actx_value.specs.declared.ids.ObjId.{ObjId}
 use Rattle.actx_value.specs.declared.value.Key.{Key}
 use Rattle.actx_value.specs.declared.value.Key.TheVariants.{Name}
 use Rattle.actx_value.specs.declared.value.Value.{Value}
-use Rattle.actx_objects.specs.declared.kind.Kind.{Kind}
 use Rattle.actx_objects.specs.declared.object.Object.{Object}
 use Rattle.actx_objects.specs.Keys.{normal_key}
-use Rattle.actx_objects.specs.Objects.{ObjectStore, object_at, changed, made, with_proto, is_array_length}
+use Rattle.actx_objects.specs.Objects.{ObjectStore, object_at, changed, with_proto, is_array_length}
 use Rattle.actx_objects.specs.Writes.{cut_to, length_in, with_property, written}
 use Rattle.actx_table.specs.Table.{rows}
 use Rattle.actx_opening.specs.declared.start.Start.{Start}

@@ -1,5 +1,5 @@
 -- The properties of the built-in objects. All are hidden.
-use Rattle.std.specs.Prelude.{ℕ, ◌+◌, Bool, true, ◌==◌, ℤ, pos, negsuc, List, [], ◌∷◌, ◌++◌, map, Option, Some, None, is_some, position, unwrap_or, codes, if◌then◌else◌}
+use Rattle.std.specs.Prelude.{ℕ, ◌+◌, true, ◌==◌, pos, negsuc, List, [], ◌∷◌, ◌++◌, map, Option, Some, None, position, unwrap_or, codes, if◌then◌else◌}
 use Rattle.std.specs.List.{filter_map}
 use Rattle.std.specs.Option.{option_map, option_map_or, option_and_then}
 use Rattle.actx_value.specs.Texts.{texts_eq}

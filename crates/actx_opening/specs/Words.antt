@@ -1,5 +1,5 @@
 -- The texts that stand in the opening store behind the literals, and what a table of lines says.
-use Rattle.std.specs.Prelude.{ℕ, Bool, List, [], ◌∷◌, ◌++◌, ◌==◌, codes, if◌then◌else◌}
+use Rattle.std.specs.Prelude.{ℕ, List, [], ◌∷◌, ◌++◌, ◌==◌, codes, if◌then◌else◌}
 
 -- the names that the runtime itself reads and writes, and the words of `typeof` (ECMA-262 §13.5.3)
 abbrev pub runtime_words : List (List ℕ)

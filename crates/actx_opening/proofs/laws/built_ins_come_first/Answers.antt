@@ -1,7 +1,5 @@
-use Rattle.std.proofs.Common.{length, ◌+◌}
-use Rattle.actx_objects.specs.Objects.{property_count}
+use Rattle.std.proofs.Common.{length}
 use Rattle.actx_opening.specs.Texts.{with_literals, opening_texts}
-use Rattle.actx_opening.specs.Opening.{unbounded}
 use Rattle.actx_opening.proofs.Counts.{as_many}
 use Rattle.actx_opening.proofs.laws.built_ins_come_first.Goals as goal
 

@@ -1,4 +1,4 @@
-use Rattle.std.proofs.Common.{◌≡◌, ◌∙◌, sym, arith}
+use Rattle.std.proofs.Common.{◌∙◌, sym, arith}
 use Rattle.actx_opening.proofs.Protos.{one_given, all_given}
 use Rattle.actx_opening.proofs.start.give_protos.Goals as goal
 

@@ -1,0 +1,5 @@
+pub mod Words
+pub mod Texts
+pub mod Starts
+pub mod Members
+pub mod Opening

@@ -21,16 +21,16 @@ use Rattle.actx_code.specs.declared.item.Logic.{Logic}
 use Rattle.actx_code.specs.declared.form.Form.{Form}
 use Rattle.actx_want.specs.declared.completion.Completion.{Completion}
 use Rattle.actx_want.specs.declared.completion.Completion.TheVariants.{Normal, Break, Continue, Return, Throw}
-use Rattle.actx_frame.specs.declared.items.Step.{Step}
-use Rattle.actx_frame.specs.declared.items.Step.TheVariants as steps
-use Rattle.actx_frame.specs.declared.items.Item.{Item}
-use Rattle.actx_frame.specs.declared.items.Item.TheVariants as items
-use Rattle.actx_frame.specs.declared.items.Control.{Control}
-use Rattle.actx_frame.specs.declared.items.Control.TheVariants as controls
-use Rattle.actx_frame.specs.declared.items.Next.{Next}
-use Rattle.actx_frame.specs.declared.items.Next.TheVariants as nexts
-use Rattle.actx_frame.specs.Work.{Work, forms}
-use Rattle.actx_frame.specs.Stack.{step_work, act, control_work, next_work, Leads}
+use Rattle.actx_frame_items.specs.declared.items.Step.{Step}
+use Rattle.actx_frame_items.specs.declared.items.Step.TheVariants as steps
+use Rattle.actx_frame_items.specs.declared.items.Item.{Item}
+use Rattle.actx_frame_items.specs.declared.items.Item.TheVariants as items
+use Rattle.actx_frame_items.specs.declared.items.Control.{Control}
+use Rattle.actx_frame_items.specs.declared.items.Control.TheVariants as controls
+use Rattle.actx_frame_items.specs.declared.items.Next.{Next}
+use Rattle.actx_frame_items.specs.declared.items.Next.TheVariants as nexts
+use Rattle.actx_frame_items.specs.Work.{Work, forms}
+use Rattle.actx_frame_items.specs.Stack.{step_work, act, control_work, next_work, Leads}
 use Rattle.actx_code.specs.declared.form.Form.{Literal, Name, ChangeName, ChangeMember, Delete, Unary, Not, Void, Operators, Logical, If, Sequence, Template, Suffixes, SuperMember, New, SuperCall, Array, Object, Function, Class, Init, Bind, Block, While, DoWhile, For, ForLet, ForOf, Break as BreakForm, Continue as ContinueForm, Return as ReturnForm, Throw as ThrowForm, Try, Yield, Await, Parameter, RestParameter, Begin}
 use Rattle.actx_code.specs.declared.item.Argument.{Argument}
 use Rattle.actx_code.specs.declared.item.Caught.{Caught}
@@ -62,36 +62,36 @@ use Rattle.actx_want.specs.Functions.{binding}
 use Rattle.actx_want.specs.Classes.{class_made, extending}
 use Rattle.actx_want.specs.Loops.{let_entered, while_turn, do_turn}
 use Rattle.actx_want.specs.Tries.{catching, finishing, caught, finally_of}
-use Rattle.actx_frame.specs.declared.items.name.Spot.TheVariants as spots
-use Rattle.actx_frame.specs.declared.items.operator.OperatorStep.TheVariants as operators
-use Rattle.actx_frame.specs.declared.items.member.Chain.{Chain}
-use Rattle.actx_frame.specs.declared.items.member.ChainEnd.{ChainEnd}
-use Rattle.actx_frame.specs.declared.items.member.ChainEnd.TheVariants as chain_ends
-use Rattle.actx_frame.specs.declared.items.member.MemberStep.TheVariants as members
-use Rattle.actx_frame.specs.declared.items.list.ListStep.TheVariants as lists
-use Rattle.actx_frame.specs.declared.items.list.ListEnd.TheVariants as list_ends
-use Rattle.actx_frame.specs.declared.items.list.EntryStep.TheVariants as entries
-use Rattle.actx_frame.specs.declared.items.pattern.PatternStep.TheVariants as patterns
-use Rattle.actx_frame.specs.declared.items.statement.StatementStep.TheVariants as statements
-use Rattle.actx_frame.specs.declared.items.statement.ClassStep.TheVariants as classes
-use Rattle.actx_frame.specs.declared.items.walk.WhileLoop.{WhileLoop}
-use Rattle.actx_frame.specs.declared.items.walk.ForLoop.{ForLoop}
-use Rattle.actx_frame.specs.declared.items.walk.OfLoop.{OfLoop}
-use Rattle.actx_frame.specs.declared.items.walk.LoopStep.TheVariants as loops
-use Rattle.actx_frame.specs.declared.items.walk.OfStep.TheVariants as ofs
-use Rattle.actx_frame.specs.declared.items.ending.Ending.TheVariants as endings
-use Rattle.actx_frame.specs.Work.{form_in}
-use Rattle.actx_frame.specs.Names.{access}
-use Rattle.actx_frame.specs.Operators.{operator_work}
-use Rattle.actx_frame.specs.Members.{chain_done, stop_value, following, member_work}
-use Rattle.actx_frame.specs.Lists.{whole_list, finished, list_work, entry_work}
-use Rattle.actx_frame.specs.Patterns.{pattern_work}
-use Rattle.actx_frame.specs.Statements.{statement_work, class_work}
-use Rattle.actx_frame.specs.Loops.{while_again, do_again, for_again, loop_work, of_work}
-use Rattle.actx_frame.specs.Endings.{ending_work}
+use Rattle.actx_frame_items.specs.declared.items.name.Spot.TheVariants as spots
+use Rattle.actx_frame_items.specs.declared.items.operator.OperatorStep.TheVariants as operators
+use Rattle.actx_frame_items.specs.declared.items.member.Chain.{Chain}
+use Rattle.actx_frame_items.specs.declared.items.member.ChainEnd.{ChainEnd}
+use Rattle.actx_frame_items.specs.declared.items.member.ChainEnd.TheVariants as chain_ends
+use Rattle.actx_frame_items.specs.declared.items.member.MemberStep.TheVariants as members
+use Rattle.actx_frame_items.specs.declared.items.list.ListStep.TheVariants as lists
+use Rattle.actx_frame_items.specs.declared.items.list.ListEnd.TheVariants as list_ends
+use Rattle.actx_frame_items.specs.declared.items.list.EntryStep.TheVariants as entries
+use Rattle.actx_frame_items.specs.declared.items.pattern.PatternStep.TheVariants as patterns
+use Rattle.actx_frame_items.specs.declared.items.statement.StatementStep.TheVariants as statements
+use Rattle.actx_frame_items.specs.declared.items.statement.ClassStep.TheVariants as classes
+use Rattle.actx_frame_items.specs.declared.items.walk.WhileLoop.{WhileLoop}
+use Rattle.actx_frame_items.specs.declared.items.walk.ForLoop.{ForLoop}
+use Rattle.actx_frame_items.specs.declared.items.walk.OfLoop.{OfLoop}
+use Rattle.actx_frame_items.specs.declared.items.walk.LoopStep.TheVariants as loops
+use Rattle.actx_frame_items.specs.declared.items.walk.OfStep.TheVariants as ofs
+use Rattle.actx_frame_items.specs.declared.items.ending.Ending.TheVariants as endings
+use Rattle.actx_frame_items.specs.Work.{form_in}
+use Rattle.actx_frame_items.specs.Names.{access}
+use Rattle.actx_frame_items.specs.Operators.{operator_work}
+use Rattle.actx_frame_items.specs.Members.{chain_done, stop_value, following, member_work}
+use Rattle.actx_frame_items.specs.Lists.{whole_list, finished, list_work, entry_work}
+use Rattle.actx_frame_items.specs.Patterns.{pattern_work}
+use Rattle.actx_frame_items.specs.Statements.{statement_work, class_work}
+use Rattle.actx_frame_items.specs.Loops.{while_again, do_again, for_again, loop_work, of_work}
+use Rattle.actx_frame_items.specs.Endings.{ending_work}
 use Rattle.actx_frame.specs.Begins.{IsChain, IsWhile, IsFor, clause_in}
-use Rattle.actx_frame.proofs.Leading.{leads_error, leads_by}
-use Rattle.actx_frame.proofs.LoopLaws.{while_turns_law, do_turns_law}
+use Rattle.actx_frame_items.proofs.Leading.{leads_error, leads_by}
+use Rattle.actx_frame_steps.proofs.LoopLaws.{while_turns_law, do_turns_law}
 use Rattle.actx_want.specs.Run.{Run}
 use Rattle.actx_want.specs.Members.{suffixed}
 use Rattle.actx_frame.proofs.Forms.{form_block, form_change_member, form_class, form_delete, form_if, form_of, form_suffixes, form_super_member, form_try}

@@ -53,7 +53,7 @@ use Rattle.actx_want.specs.Statements.{sequence, if_else, init, block, returned,
 use Rattle.actx_want.specs.Loops.{while_loop, do_loop, for_loop, let_loop, of_loop}
 use Rattle.actx_want.specs.Tries.{try}
 use Rattle.actx_want.specs.Bodies.{values_of, eval, eval_argument, eval_caught, eval_entry, eval_change, eval_key, eval_suffix, eval_pattern, eval_operand, eval_piece, eval_element, eval_property}
-use Rattle.actx_frame.specs.Work.{forms, form_in}
+use Rattle.actx_frame_items.specs.Work.{forms, form_in}
 use Rattle.actx_frame.specs.Begins.{clause_in}
 
 shared : (f : Rc Form Global → Rc Meaning Global) → ((e : Rc Form Global) → (f e).value ≡ eval e.value) → (es : List (Rc Form Global)) → values_of (map f es) ≡ forms es

@@ -21,50 +21,50 @@ use Rattle.actx_code.specs.declared.item.Logic.{Logic}
 use Rattle.actx_code.specs.declared.form.Form.{Form}
 use Rattle.actx_want.specs.declared.completion.Completion.{Completion}
 use Rattle.actx_want.specs.declared.completion.Completion.TheVariants.{Normal, Break, Continue, Return, Throw}
-use Rattle.actx_frame.specs.declared.items.Step.{Step}
-use Rattle.actx_frame.specs.declared.items.Step.TheVariants as steps
-use Rattle.actx_frame.specs.declared.items.Item.{Item}
-use Rattle.actx_frame.specs.declared.items.Item.TheVariants as items
-use Rattle.actx_frame.specs.declared.items.Control.{Control}
-use Rattle.actx_frame.specs.declared.items.Control.TheVariants as controls
-use Rattle.actx_frame.specs.declared.items.Next.{Next}
-use Rattle.actx_frame.specs.declared.items.Next.TheVariants as nexts
-use Rattle.actx_frame.specs.Work.{Work, forms}
-use Rattle.actx_frame.specs.Stack.{step_work, act, control_work, next_work, Leads}
+use Rattle.actx_frame_items.specs.declared.items.Step.{Step}
+use Rattle.actx_frame_items.specs.declared.items.Step.TheVariants as steps
+use Rattle.actx_frame_items.specs.declared.items.Item.{Item}
+use Rattle.actx_frame_items.specs.declared.items.Item.TheVariants as items
+use Rattle.actx_frame_items.specs.declared.items.Control.{Control}
+use Rattle.actx_frame_items.specs.declared.items.Control.TheVariants as controls
+use Rattle.actx_frame_items.specs.declared.items.Next.{Next}
+use Rattle.actx_frame_items.specs.declared.items.Next.TheVariants as nexts
+use Rattle.actx_frame_items.specs.Work.{Work, forms}
+use Rattle.actx_frame_items.specs.Stack.{step_work, act, control_work, next_work, Leads}
 use Rattle.actx_code.specs.declared.member.Key.{Key}
 use Rattle.actx_code.specs.declared.pattern.Element.{Element}
 use Rattle.actx_code.specs.declared.pattern.Pattern.{Pattern}
 use Rattle.actx_value.specs.declared.value.Answer.{Answer}
 use Rattle.actx_want.specs.Run.{Run, Next', completion, ask, asks, on_value}
 use Rattle.actx_want.specs.Bodies.{eval, eval_pattern, eval_element, end_of, form_wants}
-use Rattle.actx_frame.specs.declared.items.member.KeyUse.{KeyUse}
-use Rattle.actx_frame.specs.declared.items.ending.Ending.{Ending}
-use Rattle.actx_frame.specs.declared.items.name.NameStep.{NameStep}
-use Rattle.actx_frame.specs.declared.items.operator.OperatorStep.{OperatorStep}
-use Rattle.actx_frame.specs.declared.items.member.MemberStep.{MemberStep}
-use Rattle.actx_frame.specs.declared.items.list.ListStep.{ListStep}
-use Rattle.actx_frame.specs.declared.items.list.EntryStep.{EntryStep}
-use Rattle.actx_frame.specs.declared.items.pattern.PatternStep.{PatternStep}
-use Rattle.actx_frame.specs.declared.items.statement.StatementStep.{StatementStep}
-use Rattle.actx_frame.specs.declared.items.statement.ClassStep.{ClassStep}
-use Rattle.actx_frame.specs.declared.items.walk.LoopStep.{LoopStep}
-use Rattle.actx_frame.specs.declared.items.walk.OfStep.{OfStep}
+use Rattle.actx_frame_items.specs.declared.items.member.KeyUse.{KeyUse}
+use Rattle.actx_frame_items.specs.declared.items.ending.Ending.{Ending}
+use Rattle.actx_frame_items.specs.declared.items.name.NameStep.{NameStep}
+use Rattle.actx_frame_items.specs.declared.items.operator.OperatorStep.{OperatorStep}
+use Rattle.actx_frame_items.specs.declared.items.member.MemberStep.{MemberStep}
+use Rattle.actx_frame_items.specs.declared.items.list.ListStep.{ListStep}
+use Rattle.actx_frame_items.specs.declared.items.list.EntryStep.{EntryStep}
+use Rattle.actx_frame_items.specs.declared.items.pattern.PatternStep.{PatternStep}
+use Rattle.actx_frame_items.specs.declared.items.statement.StatementStep.{StatementStep}
+use Rattle.actx_frame_items.specs.declared.items.statement.ClassStep.{ClassStep}
+use Rattle.actx_frame_items.specs.declared.items.walk.LoopStep.{LoopStep}
+use Rattle.actx_frame_items.specs.declared.items.walk.OfStep.{OfStep}
 use Rattle.actx_frame.specs.declared.machine.Want.{Want}
 use Rattle.actx_frame.specs.declared.machine.Want.TheVariants as wants
 use Rattle.actx_frame.specs.declared.machine.Wanted.{Wanted}
 use Rattle.actx_frame.specs.declared.machine.Piece.{Piece}
 use Rattle.actx_frame.specs.declared.machine.Piece.TheVariants as pieces
-use Rattle.actx_frame.specs.Names.{name_work}
-use Rattle.actx_frame.specs.Operators.{operator_work}
-use Rattle.actx_frame.specs.Members.{keyed, member_work}
-use Rattle.actx_frame.specs.Lists.{list_work, entry_work}
-use Rattle.actx_frame.specs.Patterns.{pattern_work}
-use Rattle.actx_frame.specs.Statements.{statement_work, class_work}
-use Rattle.actx_frame.specs.Loops.{loop_work, of_work}
-use Rattle.actx_frame.specs.Endings.{ending_work}
-use Rattle.actx_frame.specs.Stack.{stacked, kept, Reaches}
+use Rattle.actx_frame_items.specs.Names.{name_work}
+use Rattle.actx_frame_items.specs.Operators.{operator_work}
+use Rattle.actx_frame_items.specs.Members.{keyed, member_work}
+use Rattle.actx_frame_items.specs.Lists.{list_work, entry_work}
+use Rattle.actx_frame_items.specs.Patterns.{pattern_work}
+use Rattle.actx_frame_items.specs.Statements.{statement_work, class_work}
+use Rattle.actx_frame_items.specs.Loops.{loop_work, of_work}
+use Rattle.actx_frame_items.specs.Endings.{ending_work}
+use Rattle.actx_frame_items.specs.Stack.{stacked, kept, Reaches}
 use Rattle.actx_frame.specs.Machine.{completed, ended_of, rest_of, piece_run, Works, Settles}
-use Rattle.actx_frame.proofs.Leading.{leads_error}
+use Rattle.actx_frame_items.proofs.Leading.{leads_error}
 
 pub step_name : (s : NameStep) (v : Value) → step_work (steps.Name s) v ≡ name_work s v
 unfolding step_work

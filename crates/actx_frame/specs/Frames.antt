@@ -5,7 +5,7 @@ use Rattle.actx_want.specs.Run.{Wants, Asks, Returns, Throws, Run}
 use Rattle.actx_frame.specs.declared.frame.Frame.{Frame}
 use Rattle.actx_frame.specs.declared.machine.Want.{Want}
 use Rattle.actx_frame.specs.declared.machine.Want.TheVariants.{Ask, Return, Throw}
-use Rattle.actx_frame.specs.Stack.{kept}
+use Rattle.actx_frame_items.specs.Stack.{kept}
 use Rattle.actx_frame.specs.Machine.{rest_of}
 
 -- the list of the request that is wanted

@@ -1,14 +1,3 @@
-pub mod Work
-pub mod Names
-pub mod Operators
-pub mod Members
-pub mod Lists
-pub mod Patterns
-pub mod Statements
-pub mod Loops
-pub mod Endings
-pub mod Ends
 pub mod Begins
-pub mod Stack
 pub mod Machine
 pub mod Frames

@@ -6,15 +6,15 @@ use Rattle.actx_value.specs.declared.value.Value.TheVariants as values
 use Rattle.actx_want.specs.declared.completion.Completion.{Completion}
 use Rattle.actx_want.specs.declared.completion.Completion.TheVariants.{Normal, Break, Continue, Return, Throw}
 use Rattle.actx_want.specs.Run.{Wants, Returns, Throws, Run, Next', asks}
-use Rattle.actx_frame.specs.declared.items.Item.{Item}
-use Rattle.actx_frame.specs.declared.items.Control.{Control}
+use Rattle.actx_frame_items.specs.declared.items.Item.{Item}
+use Rattle.actx_frame_items.specs.declared.items.Control.{Control}
 use Rattle.actx_frame.specs.declared.machine.Want.{Want}
 use Rattle.actx_frame.specs.declared.machine.Want.TheVariants as wants
 use Rattle.actx_frame.specs.declared.machine.Wanted.{Wanted}
 use Rattle.actx_frame.specs.declared.machine.Piece.{Piece}
 use Rattle.actx_frame.specs.declared.machine.Piece.TheVariants as pieces
-use Rattle.actx_frame.specs.Work.{Work}
-use Rattle.actx_frame.specs.Stack.{act, kept, control_work}
+use Rattle.actx_frame_items.specs.Work.{Work}
+use Rattle.actx_frame_items.specs.Stack.{act, kept, control_work}
 
 -- what a body wants where nothing is left to do with a completion
 abbrev pub ended_of : Completion → Want

@@ -3,15 +3,13 @@
 ghost use Rattle.std.specs.Prelude.{◌≡◌, IfOk};
 ghost use Rattle.actx_want.specs.Bodies.{eval};
 ghost use Rattle.actx_frame.specs.Begins.{IsWhile, IsFor, IsChain};
-ghost use Rattle.actx_frame.specs.Stack.{Leads};
+ghost use Rattle.actx_frame_items.specs.Stack.{Leads};
 
-use crate::items::{
-    Chain, ChainEnd, ClassStep, Control, Ending, ForLoop, Item, MemberStep, Next, OfLoop, OfStep,
-    StatementStep, Step, WhileLoop,
-};
-use crate::members::{copy_change, copy_key};
-use crate::shared::share;
 use actx_code::{Caught, Change, ClassMember, Declared, Form, Key, Pattern, Suffix};
+use actx_frame_items::{
+    Chain, ChainEnd, ClassStep, Control, Ending, ForLoop, Item, MemberStep, Next, OfLoop, OfStep,
+    StatementStep, Step, WhileLoop, copy_change, copy_key, share,
+};
 use actx_text::BodyId;
 use actx_value::{Request, ScopeId, Value};
 use std::alloc::AllocError;

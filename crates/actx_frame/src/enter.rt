@@ -1,25 +1,20 @@
 //! How forms begin.
 
-ghost use Rattle.std.specs.Prelude.{◌≡◌};
+ghost use Rattle.std.specs.Prelude.{◌≡◌, true, false};
 ghost use Rattle.actx_want.specs.Bodies.{eval};
-ghost use Rattle.actx_frame.specs.Stack.{Leads};
+ghost use Rattle.actx_frame_items.specs.Stack.{Leads};
+ghost use Rattle.actx_frame.specs.Begins.{is_operation, is_statement};
 
 use crate::begin::{
     enter_block, enter_change, enter_class, enter_delete, enter_if, enter_of, enter_suffixes,
     enter_super, enter_try, for_loop, while_loop,
 };
-use crate::items::{
-    Control, EntryStep, Item, ListEnd, ListStep, LoopStep, Next, OperatorStep, PatternStep, Spot,
-    StatementStep, Step,
-};
-use crate::lists::begin_list;
-use crate::loops::{do_turn, while_turn};
-use crate::members::copy_change;
-use crate::names::change as begin_change;
-use crate::operators::next_piece;
-use crate::shared::share;
-use crate::statements::next_form;
 use actx_code::Form;
+use actx_frame_items::{
+    Control, EntryStep, Item, ListEnd, ListStep, LoopStep, Next, OperatorStep, PatternStep, Spot,
+    StatementStep, Step, begin_list, change as begin_change, copy_change, next_piece, share,
+};
+use actx_frame_steps::{do_turn, next_form, while_turn};
 use actx_value::{Request, ScopeId, Value};
 use actx_want::Completion;
 use std::alloc::{AllocError, Global};
@@ -42,8 +37,9 @@ fn under(step: Step, control: Control) -> Next
     Next::Under(Item::Value(step), control)
 }
 
-/// Begins a form: goes to its first request, to its first part, or to its completion.
-#[tactic(auto, using(crate::proofs::EnterLaws::enter_laws))]
+/// Begins a form: goes to its first request, to its first part, or to its completion. Here are the forms
+/// of names, operators and members.
+#[tactic(auto, using(crate::proofs::EnterLaws::operation_laws))]
 pub fn enter(alloc: Global, form: &Form, p: ScopeId) -> Result<Next, AllocError>
     ensures leads { Leads result (eval form.now p) }
 {
@@ -106,7 +102,6 @@ pub fn enter(alloc: Global, form: &Form, p: ScopeId) -> Result<Next, AllocError>
             ))
         }
         Form::If { test, yes, no } => enter_if(test, yes, no, p),
-        Form::Sequence(list) => next_form(share(list)?, 0, p, Value::Undefined),
         Form::Template { first, pieces } => next_piece(share(pieces)?, 0, p, *first),
         Form::Suffixes { base, suffixes } => enter_suffixes(base, suffixes, p),
         Form::SuperMember {
@@ -114,6 +109,17 @@ pub fn enter(alloc: Global, form: &Form, p: ScopeId) -> Result<Next, AllocError>
             key,
             suffixes,
         } => enter_super(*hops, *key, suffixes, p),
+        _ => enter_value(alloc, form, p),
+    }
+}
+
+/// Begins a form of calls, values, cells, generators or parameters.
+#[tactic(auto, using(crate::proofs::EnterLaws::value_laws))]
+fn enter_value(alloc: Global, form: &Form, p: ScopeId) -> Result<Next, AllocError>
+    requires { is_operation form.now ≡ false }
+    ensures leads { Leads result (eval form.now p) }
+{
+    match form {
         Form::New { callee, arguments } => {
             let callee = share(callee)?;
             let arguments = share(arguments)?;
@@ -157,6 +163,35 @@ pub fn enter(alloc: Global, form: &Form, p: ScopeId) -> Result<Next, AllocError>
                 Control::Eval(value, p),
             ))
         }
+        Form::Yield(e) => Ok(under(
+            Step::Statement(StatementStep::Yielding),
+            Control::Eval(share(e)?, p),
+        )),
+        Form::Await(e) => Ok(under(
+            Step::Statement(StatementStep::Awaiting),
+            Control::Eval(share(e)?, p),
+        )),
+        Form::Parameter { index, element } => Ok(under(
+            Step::Pattern(PatternStep::BindingElement(share(element)?, p)),
+            Control::Ask(Request::Arg { index: *index }),
+        )),
+        Form::RestParameter { index, target } => Ok(under(
+            Step::Pattern(PatternStep::Binding(share(target)?, p)),
+            Control::Ask(Request::ArgsFrom { index: *index }),
+        )),
+        Form::Begin => Ok(ask(Request::Begin)),
+        _ => enter_statement(form, p),
+    }
+}
+
+/// Begins a statement.
+#[tactic(auto, using(crate::proofs::EnterLaws::statement_laws))]
+fn enter_statement(form: &Form, p: ScopeId) -> Result<Next, AllocError>
+    requires { is_statement form.now ≡ true }
+    ensures leads { Leads result (eval form.now p) }
+{
+    match form {
+        Form::Sequence(list) => next_form(share(list)?, 0, p, Value::Undefined),
         Form::Block {
             cells,
             functions,
@@ -212,22 +247,6 @@ pub fn enter(alloc: Global, form: &Form, p: ScopeId) -> Result<Next, AllocError>
             catch,
             finally,
         } => enter_try(block, catch, finally, p),
-        Form::Yield(e) => Ok(under(
-            Step::Statement(StatementStep::Yielding),
-            Control::Eval(share(e)?, p),
-        )),
-        Form::Await(e) => Ok(under(
-            Step::Statement(StatementStep::Awaiting),
-            Control::Eval(share(e)?, p),
-        )),
-        Form::Parameter { index, element } => Ok(under(
-            Step::Pattern(PatternStep::BindingElement(share(element)?, p)),
-            Control::Ask(Request::Arg { index: *index }),
-        )),
-        Form::RestParameter { index, target } => Ok(under(
-            Step::Pattern(PatternStep::Binding(share(target)?, p)),
-            Control::Ask(Request::ArgsFrom { index: *index }),
-        )),
-        Form::Begin => Ok(ask(Request::Begin)),
+        _ => unreachable!(),
     }
 }

@@ -5,9 +5,9 @@ ghost use Rattle.actx_value.specs.declared.value.Answer.{Answer};
 ghost use Rattle.actx_want.specs.Bodies.{form_wants, wants_after};
 ghost use Rattle.actx_frame.specs.Frames.{rest, wanted, args_of};
 
-use crate::items::{Control, Item};
 use crate::machine::{Want, Wanted, begin, completion, run};
 use actx_code::{Code, Form};
+use actx_frame_items::{Control, Item};
 use actx_text::BodyId;
 use actx_value::{Answer, ScopeId, Value};
 use std::alloc::{AllocError, Global};

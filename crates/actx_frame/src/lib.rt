@@ -3,19 +3,9 @@
 #![tactic(auto)]
 
 mod begin;
-mod endings;
 mod enter;
 mod frame;
-mod items;
-mod lists;
-mod loops;
 mod machine;
-mod members;
-mod names;
-mod operators;
-mod patterns;
-mod shared;
-mod statements;
 
 pub use frame::Frame;
 pub use machine::Want;

@@ -3,20 +3,19 @@
 ghost use Rattle.std.specs.Prelude.{◌≡◌, [], Ok};
 ghost use Rattle.actx_want.specs.Run.{completion as completion_of};
 ghost use Rattle.actx_want.specs.Bodies.{eval};
-ghost use Rattle.actx_frame.specs.Stack.{step_work, kept, control_work, next_work, Leads, Reaches};
+ghost use Rattle.actx_frame_items.specs.Stack.{step_work, kept, control_work, next_work, Leads, Reaches};
 ghost use Rattle.actx_frame.specs.Machine.{Works, Settles, completed, ended_of};
 
-use crate::endings::resume_ending;
 use crate::enter::enter;
-use crate::items::{Control, Item, Next, Step};
-use crate::lists::{resume_entry, resume_list};
-use crate::loops::{resume_loop, resume_of};
-use crate::members::{begin_key, resume_member};
-use crate::names::resume_name;
-use crate::operators::resume_operator;
-use crate::patterns::{bind, bind_element, resume_pattern};
-use crate::statements::{resume_class, resume_statement};
 use actx_code::Form;
+use actx_frame_items::{
+    Control, Item, Next, Step, begin_key, resume_entry, resume_list, resume_member, resume_name,
+    resume_operator,
+};
+use actx_frame_steps::{
+    bind, bind_element, resume_class, resume_ending, resume_loop, resume_of, resume_pattern,
+    resume_statement,
+};
 use actx_value::{Answer, Request, ScopeId, Value};
 use actx_want::Completion;
 use std::alloc::{AllocError, Global};

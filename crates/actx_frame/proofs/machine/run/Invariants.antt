@@ -1,6 +1,6 @@
 use Rattle.std.proofs.Common.{Ok}
 use Rattle.actx_frame.specs.declared.machine.Piece.TheVariants.{On}
-use Rattle.actx_frame.specs.Stack.{kept, control_work}
+use Rattle.actx_frame_items.specs.Stack.{kept, control_work}
 use Rattle.actx_frame.specs.Machine.{Works}
 use Rattle.actx_frame.proofs.machine.run.Given as goal
 

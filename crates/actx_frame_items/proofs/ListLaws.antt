@@ -1,40 +1,23 @@
 -- What the items of lists and calls do with a value.
-use Rattle.std.proofs.Common.{◌≡◌, ℕ, zero, suc, ◌+◌, ◌<◌, ◌≤◌, Bool, true, false, not, List, [], ◌∷◌, ◌++◌, length, map, drop, get_or, Option, Some, None, Result, Ok, Err, refl, sym, ap, ◌∙◌, subst, arith}
-use Rattle.std.specs.Prelude.{if◌then◌else◌, pos}
+use Rattle.std.proofs.Common.{◌≡◌, ℕ, ◌+◌, ◌<◌, ◌≤◌, true, false, [], ◌∷◌, ◌++◌, length, map, get_or, Ok, refl, sym, ap, ◌∙◌}
+use Rattle.std.specs.Prelude.{if◌then◌else◌}
 use Rattle.std.specs.declared.rc.Rc.{Rc}
 use Rattle.std.specs.declared.alloc.Global.{Global}
-use Rattle.std.specs.declared.alloc.AllocError.{AllocError}
 use Rattle.std.specs.declared.vec.Vec.{Vec}
-use Rattle.actx_text.specs.declared.body_id.BodyId.{BodyId}
 use Rattle.actx_value.specs.declared.ids.ScopeId.{ScopeId}
 use Rattle.actx_value.specs.declared.value.Value.{Value}
 use Rattle.actx_value.specs.declared.value.Value.TheVariants as values
-use Rattle.actx_value.specs.declared.request.Request.{Request}
 use Rattle.actx_value.specs.declared.request.Request.TheVariants as requests
-use Rattle.actx_value.specs.declared.operator.BinaryOp.{BinaryOp}
-use Rattle.actx_value.specs.declared.operator.BinaryOp.TheVariants as binary
-use Rattle.actx_value.specs.declared.operator.UnaryOp.{UnaryOp}
-use Rattle.actx_value.specs.declared.operator.UnaryOp.TheVariants as unary
-use Rattle.actx_value.specs.Truth.{truth_of}
-use Rattle.actx_tree.specs.declared.operator.StepOp.{StepOp}
-use Rattle.actx_code.specs.declared.item.Logic.{Logic}
 use Rattle.actx_code.specs.declared.form.Form.{Form}
-use Rattle.actx_want.specs.declared.completion.Completion.{Completion}
-use Rattle.actx_want.specs.declared.completion.Completion.TheVariants.{Normal, Break, Continue, Return, Throw}
-use Rattle.actx_frame_items.specs.declared.items.Step.{Step}
 use Rattle.actx_frame_items.specs.declared.items.Step.TheVariants as steps
-use Rattle.actx_frame_items.specs.declared.items.Item.{Item}
 use Rattle.actx_frame_items.specs.declared.items.Item.TheVariants as items
-use Rattle.actx_frame_items.specs.declared.items.Control.{Control}
 use Rattle.actx_frame_items.specs.declared.items.Control.TheVariants as controls
-use Rattle.actx_frame_items.specs.declared.items.Next.{Next}
 use Rattle.actx_frame_items.specs.declared.items.Next.TheVariants as nexts
-use Rattle.actx_frame_items.specs.Work.{Work, forms}
 use Rattle.actx_frame_items.specs.Stack.{step_work, act, control_work, next_work, Leads}
 use Rattle.std.proofs.lemmas.List.{drop_all}
 use Rattle.actx_code.specs.declared.item.Argument.{Argument, One, Spread}
-use Rattle.actx_want.specs.Run.{ask, on_value, is_mark}
-use Rattle.actx_want.specs.Lists.{Listed, Lister, collected, listed}
+use Rattle.actx_want.specs.Run.{is_mark}
+use Rattle.actx_want.specs.Lists.{Listed, collected, listed}
 use Rattle.actx_want.specs.Bodies.{eval, eval_argument}
 use Rattle.actx_want.proofs.LoopLaws.{items_law}
 use Rattle.actx_frame_items.specs.declared.items.member.Chain.{Chain}
@@ -43,7 +26,6 @@ use Rattle.actx_frame_items.specs.declared.items.name.NameStep.TheVariants as na
 use Rattle.actx_frame_items.specs.declared.items.list.List.{List as List'}
 use Rattle.actx_frame_items.specs.declared.items.list.ListEnd.{ListEnd}
 use Rattle.actx_frame_items.specs.declared.items.list.ListEnd.TheVariants as ends
-use Rattle.actx_frame_items.specs.declared.items.list.ListStep.{ListStep}
 use Rattle.actx_frame_items.specs.declared.items.list.ListStep.TheVariants as lists
 use Rattle.actx_frame_items.specs.Names.{name_work}
 use Rattle.actx_frame_items.specs.Members.{member_work}

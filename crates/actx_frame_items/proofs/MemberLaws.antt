@@ -1,45 +1,32 @@
 -- What the items of keys, members and suffixes do with a value.
-use Rattle.std.proofs.Common.{◌≡◌, ℕ, zero, suc, ◌+◌, ◌<◌, ◌≤◌, Bool, true, false, not, List, [], ◌∷◌, ◌++◌, length, map, drop, get_or, Option, Some, None, Result, Ok, Err, refl, sym, ap, ◌∙◌, subst, arith}
-use Rattle.std.specs.Prelude.{if◌then◌else◌, pos}
+use Rattle.std.proofs.Common.{◌≡◌, ℕ, ◌+◌, ◌<◌, ◌≤◌, Bool, true, false, [], length, map, get_or, Ok, refl, sym, ap, ◌∙◌}
+use Rattle.std.specs.Prelude.{if◌then◌else◌}
 use Rattle.std.specs.declared.rc.Rc.{Rc}
 use Rattle.std.specs.declared.alloc.Global.{Global}
-use Rattle.std.specs.declared.alloc.AllocError.{AllocError}
 use Rattle.std.specs.declared.vec.Vec.{Vec}
 use Rattle.actx_text.specs.declared.body_id.BodyId.{BodyId}
 use Rattle.actx_value.specs.declared.ids.ScopeId.{ScopeId}
 use Rattle.actx_value.specs.declared.value.Value.{Value}
 use Rattle.actx_value.specs.declared.value.Value.TheVariants as values
-use Rattle.actx_value.specs.declared.request.Request.{Request}
 use Rattle.actx_value.specs.declared.request.Request.TheVariants as requests
 use Rattle.actx_value.specs.declared.operator.BinaryOp.{BinaryOp}
-use Rattle.actx_value.specs.declared.operator.BinaryOp.TheVariants as binary
-use Rattle.actx_value.specs.declared.operator.UnaryOp.{UnaryOp}
-use Rattle.actx_value.specs.declared.operator.UnaryOp.TheVariants as unary
-use Rattle.actx_value.specs.Truth.{truth_of}
-use Rattle.actx_tree.specs.declared.operator.StepOp.{StepOp}
 use Rattle.actx_code.specs.declared.item.Logic.{Logic}
 use Rattle.actx_code.specs.declared.form.Form.{Form}
-use Rattle.actx_want.specs.declared.completion.Completion.{Completion}
-use Rattle.actx_want.specs.declared.completion.Completion.TheVariants.{Normal, Break, Continue, Return, Throw}
-use Rattle.actx_frame_items.specs.declared.items.Step.{Step}
+use Rattle.actx_want.specs.declared.completion.Completion.TheVariants.{Normal}
 use Rattle.actx_frame_items.specs.declared.items.Step.TheVariants as steps
-use Rattle.actx_frame_items.specs.declared.items.Item.{Item}
 use Rattle.actx_frame_items.specs.declared.items.Item.TheVariants as items
-use Rattle.actx_frame_items.specs.declared.items.Control.{Control}
 use Rattle.actx_frame_items.specs.declared.items.Control.TheVariants as controls
-use Rattle.actx_frame_items.specs.declared.items.Next.{Next}
 use Rattle.actx_frame_items.specs.declared.items.Next.TheVariants as nexts
-use Rattle.actx_frame_items.specs.Work.{Work, forms}
 use Rattle.actx_frame_items.specs.Stack.{step_work, act, control_work, next_work, Leads}
 use Rattle.std.proofs.lemmas.List.{drop_all}
 use Rattle.actx_code.specs.declared.item.Argument.{Argument}
 use Rattle.actx_code.specs.declared.member.Key.{Key, Plain, Computed}
 use Rattle.actx_code.specs.declared.member.Change.{Change, Plainly, WithOperator, WithLogic}
 use Rattle.actx_code.specs.declared.member.Suffix.{Suffix, Member, Call}
-use Rattle.actx_want.specs.Run.{Run, ask, on_value}
+use Rattle.actx_want.specs.Run.{ask}
 use Rattle.actx_want.specs.Names.{changed_plainly, changed_by_operator, changed_by_logic}
-use Rattle.actx_want.specs.Lists.{Keyed, defining, listed}
-use Rattle.actx_want.specs.Members.{Suffixed, stops, computed, suffixed, member, got}
+use Rattle.actx_want.specs.Lists.{Keyed, listed}
+use Rattle.actx_want.specs.Members.{Suffixed, stops, computed, suffixed, got}
 use Rattle.actx_want.specs.Calls.{calling}
 use Rattle.actx_want.specs.Bodies.{eval, eval_key, eval_change, eval_suffix, eval_argument}
 use Rattle.actx_frame_items.specs.declared.items.name.Spot.TheVariants as spots
@@ -48,7 +35,6 @@ use Rattle.actx_frame_items.specs.declared.items.member.ChainEnd.{ChainEnd}
 use Rattle.actx_frame_items.specs.declared.items.member.ChainEnd.TheVariants as ends
 use Rattle.actx_frame_items.specs.declared.items.member.KeyUse.{KeyUse}
 use Rattle.actx_frame_items.specs.declared.items.member.KeyUse.TheVariants as uses
-use Rattle.actx_frame_items.specs.declared.items.member.MemberStep.{MemberStep}
 use Rattle.actx_frame_items.specs.declared.items.member.MemberStep.TheVariants as members
 use Rattle.actx_frame_items.specs.declared.items.list.ListEnd.TheVariants as list_ends
 use Rattle.actx_frame_items.specs.declared.items.list.EntryStep.TheVariants as entries

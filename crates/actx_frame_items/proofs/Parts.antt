@@ -1,5 +1,5 @@
 -- The equations of the parts of forms: what each kind of part does, by what the parts in it do.
-use Rattle.std.proofs.Common.{◌≡◌, ℕ, Bool, List, [], ◌∷◌, map, Option, Some, None, refl, ap, ◌∙◌}
+use Rattle.std.proofs.Common.{◌≡◌, ℕ, Bool, map, Option, Some, None}
 use Rattle.std.specs.declared.rc.Rc.{Rc}
 use Rattle.std.specs.declared.alloc.Global.{Global}
 use Rattle.std.specs.declared.vec.Vec.{Vec}
@@ -10,27 +10,25 @@ use Rattle.actx_tree.specs.declared.operator.StepOp.{StepOp}
 use Rattle.actx_code.specs.declared.item.Logic.{Logic}
 use Rattle.actx_code.specs.declared.form.Form.{Form, the_lemmas}
 use Rattle.actx_code.specs.declared.item.Argument.{Argument, One, Spread}
-use Rattle.actx_code.specs.declared.item.Caught.{Caught, Unbound, Bound}
-use Rattle.actx_code.specs.declared.item.Entry.{Entry, Pair, Method, Copied}
-use Rattle.actx_code.specs.declared.member.Change.{Change, Plainly, WithOperator, WithLogic, StepBefore, StepAfter}
+use Rattle.actx_code.specs.declared.item.Caught.{Unbound, Bound}
+use Rattle.actx_code.specs.declared.item.Entry.{Pair, Method, Copied}
+use Rattle.actx_code.specs.declared.member.Change.{Plainly, WithOperator, WithLogic, StepBefore, StepAfter}
 use Rattle.actx_code.specs.declared.member.Key.{Key, Plain, Computed}
-use Rattle.actx_code.specs.declared.member.Suffix.{Suffix, Member, Call}
+use Rattle.actx_code.specs.declared.member.Suffix.{Member, Call}
 use Rattle.actx_code.specs.declared.pattern.Pattern.{Pattern, Slot, Properties, Elements}
 use Rattle.actx_code.specs.declared.item.Operand.{Operand}
 use Rattle.actx_code.specs.declared.item.Piece.{Piece}
 use Rattle.actx_code.specs.declared.pattern.Element.{Element}
 use Rattle.actx_code.specs.declared.pattern.Property.{Property}
-use Rattle.actx_want.specs.Run.{Meaning}
-use Rattle.actx_want.specs.Names.{Changing, changed_plainly, changed_by_operator, changed_by_logic, changed_before, changed_after}
-use Rattle.actx_want.specs.Operators.{Chained, operand, piece}
-use Rattle.actx_want.specs.Lists.{Listed, Keyed, Filling, single, spread, pair, method, copied}
-use Rattle.actx_want.specs.Members.{Suffixed, plain, computed, member}
+use Rattle.actx_want.specs.Names.{changed_plainly, changed_by_operator, changed_by_logic, changed_before, changed_after}
+use Rattle.actx_want.specs.Operators.{operand, piece}
+use Rattle.actx_want.specs.Lists.{single, spread, pair, method, copied}
+use Rattle.actx_want.specs.Members.{plain, computed, member}
 use Rattle.actx_want.specs.Calls.{call}
-use Rattle.actx_want.specs.Functions.{Binding}
-use Rattle.actx_want.specs.Patterns.{PropertyBinding, slot, element, properties, elements}
+use Rattle.actx_want.specs.Patterns.{slot, element, properties, elements}
 use Rattle.actx_want.specs.Tries.{unbound, bound}
 use Rattle.actx_frame_items.specs.Work.{form_in}
-use Rattle.actx_want.specs.Bodies.{form_step, argument_step, caught_step, entry_step, change_step, key_step, suffix_step, pattern_step, operand_step, piece_step, element_step, property_step, eval, eval_argument, eval_caught, eval_entry, eval_change, eval_key, eval_suffix, eval_pattern, eval_operand, eval_piece, eval_element, eval_property}
+use Rattle.actx_want.specs.Bodies.{eval, eval_argument, eval_caught, eval_entry, eval_change, eval_key, eval_suffix, eval_pattern, eval_operand, eval_piece, eval_element, eval_property}
 
 pub change_plainly : (e : Rc Form Global) → eval_change (Plainly e) ≡ changed_plainly (eval e.value)
 unfolding eval eval_argument eval_caught eval_entry eval_change eval_key eval_suffix eval_pattern eval_operand eval_piece eval_element eval_property

@@ -3,7 +3,7 @@ use Rattle.actx_value.specs.declared.value.Value.{Value}
 use Rattle.std.specs.Prelude.{◌≡◌}
 use Rattle.actx_value.specs.declared.request.Request.TheVariants as requests
 use Rattle.actx_want.specs.declared.completion.Completion.TheVariants.{Normal}
-use Rattle.actx_want.specs.Run.{Run, Next', Turn, ask, before, loop}
+use Rattle.actx_want.specs.Run.{Next', Turn, ask, before, loop}
 use Rattle.actx_want.specs.Loops.{Once, tested, while_turn, repeating, do_turn, for_turn, updating, let_turn, let_started, let_declared, let_entered, item_entered, item_came, of_turn, of_walking, of_opening}
 use Rattle.actx_want.specs.Bodies.{eval, eval_pattern}
 use Rattle.actx_want.specs.Run.{Place, within}

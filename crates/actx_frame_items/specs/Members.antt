@@ -4,7 +4,7 @@ use Rattle.actx_value.specs.declared.value.Value.{Value}
 use Rattle.actx_value.specs.declared.value.Value.TheVariants as values
 use Rattle.actx_value.specs.declared.request.Request.TheVariants as requests
 use Rattle.actx_want.specs.declared.completion.Completion.TheVariants.{Normal}
-use Rattle.actx_want.specs.Run.{Run, Next', Place, ask, on_value}
+use Rattle.actx_want.specs.Run.{Next', Place, ask, on_value}
 use Rattle.actx_want.specs.Lists.{defining}
 use Rattle.actx_want.specs.Members.{WithReceiver, keying, member_of, at_object, got, suffixed, giving, deleting}
 use Rattle.actx_want.specs.Bodies.{eval, eval_key, eval_change, eval_suffix}

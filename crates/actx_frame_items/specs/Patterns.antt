@@ -5,7 +5,7 @@ use Rattle.actx_want.specs.declared.completion.Completion.TheVariants.{Normal}
 use Rattle.actx_want.specs.Run.{Run, Next', Place, before}
 use Rattle.actx_want.specs.Lists.{coming, taking, collected}
 use Rattle.actx_want.specs.Functions.{Binding, binding}
-use Rattle.actx_want.specs.Patterns.{PropertyBinding, slot, keys_of, properties_of, rest_of, rest_array, past_end, rest_of_walk, item_bound, items_of, walking}
+use Rattle.actx_want.specs.Patterns.{PropertyBinding, slot, keys_of, properties_of, rest_of, rest_array, past_end, rest_of_walk, item_bound, items_of}
 use Rattle.actx_want.specs.Bodies.{eval_pattern, eval_element, eval_property}
 use Rattle.actx_frame_items.specs.declared.items.pattern.Properties.{Properties}
 use Rattle.actx_frame_items.specs.declared.items.pattern.Elements.{Elements}

@@ -2,7 +2,6 @@
 use Rattle.std.specs.Prelude.{◌≡◌, List, [], ◌∷◌, Result, Ok, Err}
 use Rattle.std.specs.declared.alloc.AllocError.{AllocError}
 use Rattle.actx_value.specs.declared.value.Value.{Value}
-use Rattle.actx_want.specs.declared.completion.Completion.{Completion}
 use Rattle.actx_want.specs.Run.{Run, Next', ask, asks, on_value}
 use Rattle.actx_want.specs.Bodies.{eval, eval_pattern, eval_element, end_of}
 use Rattle.actx_frame_items.specs.declared.items.Step.{Step}

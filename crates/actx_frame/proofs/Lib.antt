@@ -1,4 +1,5 @@
 pub mod Forms
 pub mod BeginLaws
+pub mod GroupLaws
 pub mod EnterLaws
 pub mod MachineLaws

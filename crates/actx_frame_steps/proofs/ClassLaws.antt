@@ -31,7 +31,7 @@ use Rattle.actx_frame_items.specs.declared.items.Next.{Next}
 use Rattle.actx_frame_items.specs.declared.items.Next.TheVariants as nexts
 use Rattle.actx_frame_items.specs.Work.{Work, forms}
 use Rattle.actx_frame_items.specs.Stack.{step_work, act, control_work, next_work, Leads}
-use Rattle.std.proofs.lemmas.List.{drop_all}
+use Rattle.std.proofs.lemmas.List.{drop_all, get_or_default}
 use Rattle.actx_code.specs.declared.item.ClassMember.{ClassMember}
 use Rattle.actx_want.specs.Run.{ask, on_value, before}
 use Rattle.actx_want.specs.Classes.{stands_on_prototype, home_of, members_of, method_made, prototype_got}
@@ -81,16 +81,16 @@ method_defined_law m v = refl
 pub ruleset step_laws = (extending_law, made_prototype, made_static, prototype_law, method_made_law, method_defined_law, leads_error)
 
 -- whether a member isn't static, by the first of them
-pub stands_first : (ms : List ClassMember) (i : ℕ) (x : ClassMember) → i < length ms → x ≡ get_or ms i x → x.is_static ≡ false → stands_on_prototype (drop i ms) ≡ true
+pub stands_first : (ms : List ClassMember) (i : ℕ) (d : ClassMember) → i < length ms → (get_or ms i d).is_static ≡ false → stands_on_prototype (drop i ms) ≡ true
 unfolding stands_on_prototype
-stands_first ms i x lt g h = ap stands_on_prototype (dropped ms i x lt g) ∙ ap (λ b. if b then stands_on_prototype (drop (i + 1) ms) else true) h
+stands_first ms i d lt h = ap stands_on_prototype (dropped ms i (get_or ms i d) lt (get_or_default ms i d (get_or ms i d) lt)) ∙ ap (λ b. if b then stands_on_prototype (drop (i + 1) ms) else true) h
 
-pub stands_later : (ms : List ClassMember) (i : ℕ) (x : ClassMember) → i < length ms → x ≡ get_or ms i x → x.is_static ≡ true → stands_on_prototype (drop i ms) ≡ stands_on_prototype (drop (i + 1) ms)
+pub stands_later : (ms : List ClassMember) (i : ℕ) (d : ClassMember) → i < length ms → (get_or ms i d).is_static ≡ true → stands_on_prototype (drop i ms) ≡ stands_on_prototype (drop (i + 1) ms)
 unfolding stands_on_prototype
-stands_later ms i x lt g h = ap stands_on_prototype (dropped ms i x lt g) ∙ ap (λ b. if b then stands_on_prototype (drop (i + 1) ms) else true) h
+stands_later ms i d lt h = ap stands_on_prototype (dropped ms i (get_or ms i d) lt (get_or_default ms i d (get_or ms i d) lt)) ∙ ap (λ b. if b then stands_on_prototype (drop (i + 1) ms) else true) h
 
 pub stands_nowhere : (ms : List ClassMember) (i : ℕ) → length ms ≤ i → stands_on_prototype (drop i ms) ≡ false
 unfolding stands_on_prototype
 stands_nowhere ms i le = ap stands_on_prototype (drop_all i ms le)
 
-pub ruleset static_laws = (stands_first, stands_later, stands_nowhere)
+pub ruleset static_laws = (stands_nowhere)

@@ -212,6 +212,19 @@ pub fn of_turn(held: OfLoop, walk: Value) -> Next
     under_of(OfStep::Turn(held, walk), Control::Ask(Request::Tick))
 }
 
+/// The target of a turn of `for-of` is due, in the scope that came.
+#[tactic(auto, using(crate::proofs::OfLaws::of_laws))]
+fn enter_item(held: OfLoop, walk: Value, item: Value, v: Value) -> Result<Next, AllocError>
+    ensures leads { Leads result (of_work (OfStep.ItemEntered held walk item) v) }
+{
+    let target = share(&held.target)?;
+    let p = inside(held.place, v);
+    Ok(Next::Under(
+        Item::Ending(Ending::OfTarget(held, p, walk)),
+        Control::Bind(target, p, item),
+    ))
+}
+
 /// What a step of a `for-of` does with a value.
 #[tactic(auto, using(crate::proofs::OfLaws::of_laws))]
 pub fn resume_of(held: OfStep, v: Value) -> Result<Next, AllocError>
@@ -237,13 +250,6 @@ pub fn resume_of(held: OfStep, v: Value) -> Result<Next, AllocError>
             };
             Ok(under_of(OfStep::ItemEntered(l, walk, v), Control::Ask(request)))
         }
-        OfStep::ItemEntered(l, walk, item) => {
-            let target = share(&l.target)?;
-            let p = inside(l.place, v);
-            Ok(Next::Under(
-                Item::Ending(Ending::OfTarget(l, p, walk)),
-                Control::Bind(target, p, item),
-            ))
-        }
+        OfStep::ItemEntered(l, walk, item) => enter_item(l, walk, item, v),
     }
 }

@@ -3,3 +3,4 @@ pub mod BeginLaws
 pub mod GroupLaws
 pub mod EnterLaws
 pub mod MachineLaws
+pub mod FrameLaws

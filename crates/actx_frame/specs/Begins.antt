@@ -3,8 +3,17 @@ use Rattle.std.specs.Prelude.{◌≡◌, Bool, true, false, Option, Some, None}
 use Rattle.std.specs.declared.rc.Rc.{Rc}
 use Rattle.std.specs.declared.alloc.Global.{Global}
 use Rattle.std.specs.declared.vec.Vec.{Vec}
-use Rattle.actx_code.specs.declared.form.Form.{Form, Literal, Name, ChangeName, ChangeMember, Delete, Unary, Not, Void, Operators, Logical, If, Template, Suffixes, SuperMember, Sequence, Block, While, DoWhile, For, ForLet, ForOf, Break, Continue, Return, Throw, Try}
+use Rattle.actx_code.specs.declared.form.Form.{Form, Form-F, out-Form}
+use Rattle.actx_code.specs.declared.item.Argument.{Argument}
 use Rattle.actx_code.specs.declared.item.Caught.{Caught}
+use Rattle.actx_code.specs.declared.item.Entry.{Entry}
+use Rattle.actx_code.specs.declared.item.Operand.{Operand}
+use Rattle.actx_code.specs.declared.item.Piece.{Piece}
+use Rattle.actx_code.specs.declared.member.Change.{Change}
+use Rattle.actx_code.specs.declared.member.Key.{Key}
+use Rattle.actx_code.specs.declared.pattern.Element.{Element}
+use Rattle.actx_code.specs.declared.pattern.Pattern.{Pattern}
+use Rattle.actx_code.specs.declared.pattern.Property.{Property}
 use Rattle.actx_code.specs.declared.member.Suffix.{Suffix}
 use Rattle.actx_want.specs.Functions.{Binding}
 use Rattle.actx_want.specs.Bodies.{eval_caught}
@@ -37,35 +46,41 @@ clause_in None = None
 clause_in (Some c) = Some (eval_caught c.value)
 
 -- the forms of names, operators and members
+abbrev pub operation_layer : Form-F Form Argument Caught Entry Change Key Suffix Pattern Operand Piece Element Property → Bool
+operation_layer (Form-F.Literal v) = true
+operation_layer (Form-F.Name hops i) = true
+operation_layer (Form-F.ChangeName hops i c) = true
+operation_layer (Form-F.ChangeMember o key c) = true
+operation_layer (Form-F.Delete b ss optional key) = true
+operation_layer (Form-F.Unary op e) = true
+operation_layer (Form-F.Not e) = true
+operation_layer (Form-F.Void e) = true
+operation_layer (Form-F.Operators e os) = true
+operation_layer (Form-F.Logical op e es) = true
+operation_layer (Form-F.If t a b) = true
+operation_layer (Form-F.Template v ps) = true
+operation_layer (Form-F.Suffixes b ss) = true
+operation_layer (Form-F.SuperMember hops key ss) = true
+operation_layer x = false
+
 unfoldable pub is_operation : Form → Bool
-is_operation (Literal v) = true
-is_operation (Name hops i) = true
-is_operation (ChangeName hops i c) = true
-is_operation (ChangeMember o key c) = true
-is_operation (Delete b ss optional key) = true
-is_operation (Unary op e) = true
-is_operation (Not e) = true
-is_operation (Void e) = true
-is_operation (Operators e os) = true
-is_operation (Logical op e es) = true
-is_operation (If t a b) = true
-is_operation (Template v ps) = true
-is_operation (Suffixes b ss) = true
-is_operation (SuperMember hops key ss) = true
-is_operation f = false
+is_operation f = operation_layer (out-Form f)
 
 -- statements
+abbrev pub statement_layer : Form-F Form Argument Caught Entry Change Key Suffix Pattern Operand Piece Element Property → Bool
+statement_layer (Form-F.Sequence es) = true
+statement_layer (Form-F.Block n fs e) = true
+statement_layer (Form-F.While t b) = true
+statement_layer (Form-F.DoWhile b t) = true
+statement_layer (Form-F.For e t u b) = true
+statement_layer (Form-F.ForLet n e t u b) = true
+statement_layer (Form-F.ForOf n x e b) = true
+statement_layer (Form-F.Break n) = true
+statement_layer (Form-F.Continue n) = true
+statement_layer (Form-F.Return e) = true
+statement_layer (Form-F.Throw e) = true
+statement_layer (Form-F.Try b c d) = true
+statement_layer x = false
+
 unfoldable pub is_statement : Form → Bool
-is_statement (Sequence es) = true
-is_statement (Block n fs e) = true
-is_statement (While t b) = true
-is_statement (DoWhile b t) = true
-is_statement (For e t u b) = true
-is_statement (ForLet n e t u b) = true
-is_statement (ForOf n x e b) = true
-is_statement (Break n) = true
-is_statement (Continue n) = true
-is_statement (Return e) = true
-is_statement (Throw e) = true
-is_statement (Try b c d) = true
-is_statement f = false
+is_statement f = statement_layer (out-Form f)

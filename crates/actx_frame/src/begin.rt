@@ -247,14 +247,20 @@ pub fn enter_try(
             )),
         },
         Some(clause) => {
-            let caught = Item::Ending(Ending::Catching(share(clause)?, p));
+            let clause = share(clause)?;
             match last {
-                None => Ok(Next::Under(caught, Control::Eval(block, p))),
-                Some(last) => Ok(Next::UnderTwo(
-                    Item::Ending(Ending::Finishing(share(last)?, p)),
-                    caught,
+                None => Ok(Next::Under(
+                    Item::Ending(Ending::Catching(clause, p)),
                     Control::Eval(block, p),
                 )),
+                Some(last) => {
+                    let last = share(last)?;
+                    Ok(Next::UnderTwo(
+                        Item::Ending(Ending::Finishing(last, p)),
+                        Item::Ending(Ending::Catching(clause, p)),
+                        Control::Eval(block, p),
+                    ))
+                }
             }
         }
     }

@@ -69,18 +69,21 @@ pub fn enter(alloc: Global, form: &Form, p: ScopeId) -> Result<Next, AllocError>
             optional,
             key,
         } => enter_delete(base, suffixes, *optional, key, p),
-        Form::Unary { op, operand } => Ok(under(
-            Step::Operator(OperatorStep::AppliedTo(*op)),
-            Control::Eval(share(operand)?, p),
-        )),
-        Form::Not(e) => Ok(under(
-            Step::Operator(OperatorStep::Negating),
-            Control::Eval(share(e)?, p),
-        )),
-        Form::Void(e) => Ok(under(
-            Step::Operator(OperatorStep::Dropping),
-            Control::Eval(share(e)?, p),
-        )),
+        Form::Unary { op, operand } => {
+            let operand = share(operand)?;
+            Ok(under(
+                Step::Operator(OperatorStep::AppliedTo(*op)),
+                Control::Eval(operand, p),
+            ))
+        }
+        Form::Not(e) => {
+            let e = share(e)?;
+            Ok(under(Step::Operator(OperatorStep::Negating), Control::Eval(e, p)))
+        }
+        Form::Void(e) => {
+            let e = share(e)?;
+            Ok(under(Step::Operator(OperatorStep::Dropping), Control::Eval(e, p)))
+        }
         Form::Operators { first, operands } => {
             let first = share(first)?;
             let operands = share(operands)?;
@@ -151,10 +154,13 @@ fn enter_value(alloc: Global, form: &Form, p: ScopeId) -> Result<Next, AllocErro
             prototype,
             members,
         } => enter_class(*constructor, parent, *prototype, members, p),
-        Form::Init { slot, value } => Ok(under(
-            Step::Statement(StatementStep::Initialising(*slot, p)),
-            Control::Eval(share(value)?, p),
-        )),
+        Form::Init { slot, value } => {
+            let value = share(value)?;
+            Ok(under(
+                Step::Statement(StatementStep::Initialising(*slot, p)),
+                Control::Eval(value, p),
+            ))
+        }
         Form::Bind { pattern, value } => {
             let pattern = share(pattern)?;
             let value = share(value)?;
@@ -163,14 +169,20 @@ fn enter_value(alloc: Global, form: &Form, p: ScopeId) -> Result<Next, AllocErro
                 Control::Eval(value, p),
             ))
         }
-        Form::Yield(e) => Ok(under(
-            Step::Statement(StatementStep::Yielding),
-            Control::Eval(share(e)?, p),
-        )),
-        Form::Await(e) => Ok(under(
-            Step::Statement(StatementStep::Awaiting),
-            Control::Eval(share(e)?, p),
-        )),
+        Form::Yield(e) => {
+            let e = share(e)?;
+            Ok(under(
+                Step::Statement(StatementStep::Yielding),
+                Control::Eval(e, p),
+            ))
+        }
+        Form::Await(e) => {
+            let e = share(e)?;
+            Ok(under(
+                Step::Statement(StatementStep::Awaiting),
+                Control::Eval(e, p),
+            ))
+        }
         Form::Parameter { index, element } => Ok(under(
             Step::Pattern(PatternStep::BindingElement(share(element)?, p)),
             Control::Ask(Request::Arg { index: *index }),
@@ -234,14 +246,20 @@ fn enter_statement(form: &Form, p: ScopeId) -> Result<Next, AllocError>
         } => enter_of(*cells, target, value, body, p),
         Form::Break(n) => Ok(done(Completion::Break(*n))),
         Form::Continue(n) => Ok(done(Completion::Continue(*n))),
-        Form::Return(e) => Ok(under(
-            Step::Statement(StatementStep::Returning),
-            Control::Eval(share(e)?, p),
-        )),
-        Form::Throw(e) => Ok(under(
-            Step::Statement(StatementStep::Throwing),
-            Control::Eval(share(e)?, p),
-        )),
+        Form::Return(e) => {
+            let e = share(e)?;
+            Ok(under(
+                Step::Statement(StatementStep::Returning),
+                Control::Eval(e, p),
+            ))
+        }
+        Form::Throw(e) => {
+            let e = share(e)?;
+            Ok(under(
+                Step::Statement(StatementStep::Throwing),
+                Control::Eval(e, p),
+            ))
+        }
         Form::Try {
             block,
             catch,

@@ -1,42 +1,24 @@
 -- What the items of classes do with a value.
-use Rattle.std.proofs.Common.{◌≡◌, ℕ, zero, suc, ◌+◌, ◌<◌, ◌≤◌, Bool, true, false, not, List, [], ◌∷◌, ◌++◌, length, map, drop, get_or, Option, Some, None, Result, Ok, Err, refl, sym, ap, ◌∙◌, subst, arith}
-use Rattle.std.specs.Prelude.{if◌then◌else◌, pos}
+use Rattle.std.proofs.Common.{◌≡◌, ℕ, ◌+◌, ◌<◌, ◌≤◌, true, false, List, length, drop, get_or, Some, Ok, refl, sym, ap, ◌∙◌}
+use Rattle.std.specs.Prelude.{if◌then◌else◌}
 use Rattle.std.specs.declared.rc.Rc.{Rc}
 use Rattle.std.specs.declared.alloc.Global.{Global}
-use Rattle.std.specs.declared.alloc.AllocError.{AllocError}
 use Rattle.std.specs.declared.vec.Vec.{Vec}
 use Rattle.actx_text.specs.declared.body_id.BodyId.{BodyId}
 use Rattle.actx_value.specs.declared.ids.ScopeId.{ScopeId}
 use Rattle.actx_value.specs.declared.value.Value.{Value}
-use Rattle.actx_value.specs.declared.value.Value.TheVariants as values
-use Rattle.actx_value.specs.declared.request.Request.{Request}
 use Rattle.actx_value.specs.declared.request.Request.TheVariants as requests
-use Rattle.actx_value.specs.declared.operator.BinaryOp.{BinaryOp}
-use Rattle.actx_value.specs.declared.operator.BinaryOp.TheVariants as binary
-use Rattle.actx_value.specs.declared.operator.UnaryOp.{UnaryOp}
-use Rattle.actx_value.specs.declared.operator.UnaryOp.TheVariants as unary
-use Rattle.actx_value.specs.Truth.{truth_of}
-use Rattle.actx_tree.specs.declared.operator.StepOp.{StepOp}
-use Rattle.actx_code.specs.declared.item.Logic.{Logic}
-use Rattle.actx_code.specs.declared.form.Form.{Form}
-use Rattle.actx_want.specs.declared.completion.Completion.{Completion}
-use Rattle.actx_want.specs.declared.completion.Completion.TheVariants.{Normal, Break, Continue, Return, Throw}
-use Rattle.actx_frame_items.specs.declared.items.Step.{Step}
+use Rattle.actx_want.specs.declared.completion.Completion.TheVariants.{Normal}
 use Rattle.actx_frame_items.specs.declared.items.Step.TheVariants as steps
-use Rattle.actx_frame_items.specs.declared.items.Item.{Item}
 use Rattle.actx_frame_items.specs.declared.items.Item.TheVariants as items
-use Rattle.actx_frame_items.specs.declared.items.Control.{Control}
 use Rattle.actx_frame_items.specs.declared.items.Control.TheVariants as controls
-use Rattle.actx_frame_items.specs.declared.items.Next.{Next}
 use Rattle.actx_frame_items.specs.declared.items.Next.TheVariants as nexts
-use Rattle.actx_frame_items.specs.Work.{Work, forms}
 use Rattle.actx_frame_items.specs.Stack.{step_work, act, control_work, next_work, Leads}
 use Rattle.std.proofs.lemmas.List.{drop_all, get_or_default}
 use Rattle.actx_code.specs.declared.item.ClassMember.{ClassMember}
-use Rattle.actx_want.specs.Run.{ask, on_value, before}
+use Rattle.actx_want.specs.Run.{ask, before}
 use Rattle.actx_want.specs.Classes.{stands_on_prototype, home_of, members_of, method_made, prototype_got}
 use Rattle.actx_frame_items.specs.declared.items.statement.ClassMembers.{ClassMembers}
-use Rattle.actx_frame_items.specs.declared.items.statement.ClassStep.{ClassStep}
 use Rattle.actx_frame_items.specs.declared.items.statement.ClassStep.TheVariants as classes
 use Rattle.actx_frame_items.specs.Statements.{members_left, class_work}
 use Rattle.actx_frame_items.proofs.Leading.{leads_error, leads_by, dropped}

@@ -1,56 +1,32 @@
 -- Array patterns.
-use Rattle.std.proofs.Common.{◌≡◌, ℕ, zero, suc, ◌+◌, ◌<◌, ◌≤◌, Bool, true, false, not, List, [], ◌∷◌, ◌++◌, length, map, drop, get_or, Option, Some, None, Result, Ok, Err, refl, sym, ap, ◌∙◌, subst, arith}
-use Rattle.std.specs.Prelude.{if◌then◌else◌, pos}
-use Rattle.std.specs.declared.rc.Rc.{Rc}
+use Rattle.std.proofs.Common.{◌≡◌, ℕ, zero, suc, ◌+◌, ◌<◌, ◌≤◌, true, false, List, [], ◌∷◌, ◌++◌, length, map, drop, get_or, Some, None, Ok, refl, sym, ap, ◌∙◌, arith}
+use Rattle.std.specs.Prelude.{if◌then◌else◌}
 use Rattle.std.specs.declared.alloc.Global.{Global}
-use Rattle.std.specs.declared.alloc.AllocError.{AllocError}
 use Rattle.std.specs.declared.vec.Vec.{Vec}
-use Rattle.actx_text.specs.declared.body_id.BodyId.{BodyId}
 use Rattle.actx_value.specs.declared.ids.ScopeId.{ScopeId}
 use Rattle.actx_value.specs.declared.value.Value.{Value}
 use Rattle.actx_value.specs.declared.value.Value.TheVariants as values
-use Rattle.actx_value.specs.declared.request.Request.{Request}
 use Rattle.actx_value.specs.declared.request.Request.TheVariants as requests
-use Rattle.actx_value.specs.declared.operator.BinaryOp.{BinaryOp}
-use Rattle.actx_value.specs.declared.operator.BinaryOp.TheVariants as binary
-use Rattle.actx_value.specs.declared.operator.UnaryOp.{UnaryOp}
-use Rattle.actx_value.specs.declared.operator.UnaryOp.TheVariants as unary
-use Rattle.actx_value.specs.Truth.{truth_of}
-use Rattle.actx_tree.specs.declared.operator.StepOp.{StepOp}
-use Rattle.actx_code.specs.declared.item.Logic.{Logic}
-use Rattle.actx_code.specs.declared.form.Form.{Form}
-use Rattle.actx_want.specs.declared.completion.Completion.{Completion}
-use Rattle.actx_want.specs.declared.completion.Completion.TheVariants.{Normal, Break, Continue, Return, Throw}
-use Rattle.actx_frame_items.specs.declared.items.Step.{Step}
+use Rattle.actx_want.specs.declared.completion.Completion.TheVariants.{Normal}
 use Rattle.actx_frame_items.specs.declared.items.Step.TheVariants as steps
-use Rattle.actx_frame_items.specs.declared.items.Item.{Item}
 use Rattle.actx_frame_items.specs.declared.items.Item.TheVariants as items
-use Rattle.actx_frame_items.specs.declared.items.Control.{Control}
 use Rattle.actx_frame_items.specs.declared.items.Control.TheVariants as controls
-use Rattle.actx_frame_items.specs.declared.items.Next.{Next}
 use Rattle.actx_frame_items.specs.declared.items.Next.TheVariants as nexts
-use Rattle.actx_frame_items.specs.Work.{Work, forms}
 use Rattle.actx_frame_items.specs.Stack.{step_work, act, control_work, next_work, Leads}
 use Rattle.std.proofs.lemmas.List.{drop_all}
-use Rattle.actx_code.specs.declared.pattern.Pattern.{Pattern, Slot, Properties, Elements}
 use Rattle.actx_code.specs.declared.pattern.Element.{Element}
-use Rattle.actx_code.specs.declared.pattern.Property.{Property}
-use Rattle.actx_want.specs.Run.{Run, Next', Meaning, ask, asks, on_value, before, is_mark, is_undefined}
+use Rattle.actx_want.specs.Run.{ask, on_value, before, is_mark}
 use Rattle.actx_want.specs.Lists.{collected}
-use Rattle.actx_want.specs.Functions.{Binding, binding}
-use Rattle.actx_want.specs.Patterns.{PropertyBinding, slot, element, properties, elements, keys_of, properties_of, rest_of, rest_array, rest_past_end, rest_of_walk, past_end, items_of, item_bound, closing, or_close}
-use Rattle.actx_want.specs.Bodies.{eval, eval_pattern, eval_element, eval_property}
+use Rattle.actx_want.specs.Functions.{Binding}
+use Rattle.actx_want.specs.Patterns.{rest_array, rest_past_end, rest_of_walk, past_end, items_of, or_close}
+use Rattle.actx_want.specs.Bodies.{eval_element}
 use Rattle.actx_want.proofs.LoopLaws.{items_law}
-use Rattle.actx_frame_items.specs.declared.items.pattern.Properties.{Properties as Properties'}
 use Rattle.actx_frame_items.specs.declared.items.pattern.Elements.{Elements as Elements'}
-use Rattle.actx_frame_items.specs.declared.items.pattern.PatternStep.{PatternStep}
 use Rattle.actx_frame_items.specs.declared.items.pattern.PatternStep.TheVariants as patterns
 use Rattle.actx_frame_items.specs.declared.items.ending.Ending.TheVariants as endings
-use Rattle.actx_frame_items.specs.Work.{form_in}
-use Rattle.actx_frame_items.specs.Patterns.{after_properties, properties_left, property_got, elements_left, elements_past, element_came, pattern_work}
+use Rattle.actx_frame_items.specs.Patterns.{elements_left, elements_past, element_came, pattern_work}
 use Rattle.actx_frame_items.specs.Endings.{ending_work}
 use Rattle.actx_frame_items.proofs.Leading.{leads_error, leads_by, dropped}
-use Rattle.actx_frame_items.proofs.Parts.{element_is, property_is, pattern_slot, pattern_properties, pattern_elements}
 
 elements_over : (e : Elements') (walk : Value) → length e.list.value.items ≤ e.at → (λ k. rest_of_walk walk e.rest e.place k) ≡ elements_left e walk
 unfolding elements_left items_of

@@ -1,51 +1,28 @@
 -- What the items of for-of loops do with a value.
-use Rattle.std.proofs.Common.{◌≡◌, ℕ, zero, suc, ◌+◌, ◌<◌, ◌≤◌, Bool, true, false, not, List, [], ◌∷◌, ◌++◌, length, map, drop, get_or, Option, Some, None, Result, Ok, Err, refl, sym, ap, ◌∙◌, subst, arith}
-use Rattle.std.specs.Prelude.{if◌then◌else◌, pos}
+use Rattle.std.proofs.Common.{◌≡◌, true, false, Ok, refl, sym, ap, ◌∙◌}
+use Rattle.std.specs.Prelude.{if◌then◌else◌}
 use Rattle.std.specs.declared.rc.Rc.{Rc}
 use Rattle.std.specs.declared.alloc.Global.{Global}
-use Rattle.std.specs.declared.alloc.AllocError.{AllocError}
-use Rattle.std.specs.declared.vec.Vec.{Vec}
-use Rattle.actx_text.specs.declared.body_id.BodyId.{BodyId}
 use Rattle.actx_value.specs.declared.ids.ScopeId.{ScopeId}
 use Rattle.actx_value.specs.declared.value.Value.{Value}
 use Rattle.actx_value.specs.declared.value.Value.TheVariants as values
-use Rattle.actx_value.specs.declared.request.Request.{Request}
 use Rattle.actx_value.specs.declared.request.Request.TheVariants as requests
-use Rattle.actx_value.specs.declared.operator.BinaryOp.{BinaryOp}
-use Rattle.actx_value.specs.declared.operator.BinaryOp.TheVariants as binary
-use Rattle.actx_value.specs.declared.operator.UnaryOp.{UnaryOp}
-use Rattle.actx_value.specs.declared.operator.UnaryOp.TheVariants as unary
-use Rattle.actx_value.specs.Truth.{truth_of}
-use Rattle.actx_tree.specs.declared.operator.StepOp.{StepOp}
-use Rattle.actx_code.specs.declared.item.Logic.{Logic}
-use Rattle.actx_code.specs.declared.form.Form.{Form}
-use Rattle.actx_want.specs.declared.completion.Completion.{Completion}
-use Rattle.actx_want.specs.declared.completion.Completion.TheVariants.{Normal, Break, Continue, Return, Throw}
-use Rattle.actx_frame_items.specs.declared.items.Step.{Step}
+use Rattle.actx_want.specs.declared.completion.Completion.TheVariants.{Normal}
 use Rattle.actx_frame_items.specs.declared.items.Step.TheVariants as steps
-use Rattle.actx_frame_items.specs.declared.items.Item.{Item}
 use Rattle.actx_frame_items.specs.declared.items.Item.TheVariants as items
-use Rattle.actx_frame_items.specs.declared.items.Control.{Control}
 use Rattle.actx_frame_items.specs.declared.items.Control.TheVariants as controls
-use Rattle.actx_frame_items.specs.declared.items.Next.{Next}
 use Rattle.actx_frame_items.specs.declared.items.Next.TheVariants as nexts
-use Rattle.actx_frame_items.specs.Work.{Work, forms}
 use Rattle.actx_frame_items.specs.Stack.{step_work, act, control_work, next_work, Leads}
 use Rattle.actx_code.specs.declared.pattern.Pattern.{Pattern}
-use Rattle.actx_want.specs.Run.{Place, ask, on_value, before, is_mark, within, loop}
-use Rattle.actx_want.specs.Loops.{tested, body_ended, item_ended, item_entered, updating}
+use Rattle.actx_want.specs.Run.{ask, is_mark, within}
+use Rattle.actx_want.specs.Loops.{item_ended, item_entered}
 use Rattle.actx_want.specs.Patterns.{or_close}
 use Rattle.actx_want.specs.Bodies.{eval, eval_pattern}
-use Rattle.actx_want.proofs.LoopLaws.{while_law, do_law, for_law, let_law, of_law}
-use Rattle.actx_frame_items.specs.declared.items.walk.WhileLoop.{WhileLoop}
-use Rattle.actx_frame_items.specs.declared.items.walk.ForLoop.{ForLoop}
+use Rattle.actx_want.proofs.LoopLaws.{of_law}
 use Rattle.actx_frame_items.specs.declared.items.walk.OfLoop.{OfLoop}
-use Rattle.actx_frame_items.specs.declared.items.walk.LoopStep.{LoopStep}
-use Rattle.actx_frame_items.specs.declared.items.walk.LoopStep.TheVariants as loops
-use Rattle.actx_frame_items.specs.declared.items.walk.OfStep.{OfStep}
 use Rattle.actx_frame_items.specs.declared.items.walk.OfStep.TheVariants as ofs
 use Rattle.actx_frame_items.specs.declared.items.ending.Ending.TheVariants as endings
-use Rattle.actx_frame_items.specs.Loops.{Moved, while_turns, do_turns, for_turns, let_turns, of_turns, while_again, do_again, for_again, let_again, of_again, for_update, let_update, loop_work, of_work}
+use Rattle.actx_frame_items.specs.Loops.{of_again, of_work}
 use Rattle.actx_frame_items.specs.Endings.{ending_work}
 use Rattle.actx_frame_items.proofs.Leading.{leads_error, leads_by}
 

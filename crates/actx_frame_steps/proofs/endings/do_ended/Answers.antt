@@ -1,4 +1,4 @@
-use Rattle.std.proofs.Common.{◌≡◌, sym, ◌∙◌}
+use Rattle.std.proofs.Common.{sym, ◌∙◌}
 use Rattle.actx_frame_steps.proofs.EndingLaws.{do_again_law}
 use Rattle.actx_frame_steps.proofs.endings.do_ended.Goals as goal
 

@@ -1,4 +1,4 @@
-use Rattle.std.proofs.Common.{◌≡◌, sym, ◌∙◌}
+use Rattle.std.proofs.Common.{sym, ◌∙◌}
 use Rattle.actx_frame_steps.proofs.EndingLaws.{for_again_law}
 use Rattle.actx_frame_steps.proofs.endings.for_ended.Goals as goal
 

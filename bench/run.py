@@ -3,8 +3,8 @@
 
 usage: bench/run.py [PROGRAM]      PROGRAM is crates/actx/out/actx if not given
 
-Cells are measured beside a plain list by the program of `crates/cells_speed`, and objects by that of
-`crates/objects_speed`, where these are built (`rt run` there).
+Cells are measured beside a plain list by the program of `crates/cells_speed`, objects by that of `crates/objects_speed`, and
+frames by that of `crates/frame_speed`, where these are built (`rt run` there).
 
 Each line: what was measured, the two sizes in bytes, the time and the peak of memory at the larger one, and the ratio of
 the times per byte, which is near 1 where time is in proportion to size. Times are the least of five runs.
@@ -132,6 +132,13 @@ def objects(program):
     print(f'Map: 1000000 entries put, walked, half of them dropped, walked: {least(program, "map", 1_000_000):.3f} s')
 
 
+def frames(program):
+    """Two lines: answers to the requests of `while (true) {}`, and of `while (true) { i += 1; }`, so many and twice as many."""
+    for what, name in (('ticks', 'turns of an empty loop'), ('adds', 'requests of a loop that adds')):
+        once, twice = (least(program, what, count) for count in (3_000_000, 6_000_000))
+        print(f'frames: 3000000 {name}: {once:.3f} s, {3 / once:.1f} million a second, ratio per answer at twice as many {twice / (2 * once):.2f}')
+
+
 def main():
     program = os.path.abspath(sys.argv[1]) if len(sys.argv) > 1 else os.path.join(TOP, 'crates/actx/out/actx')
     if not os.path.exists(program):
@@ -145,6 +152,9 @@ def main():
     beside = os.path.join(TOP, 'crates/objects_speed/out/objects_speed')
     if os.path.exists(beside):
         objects(beside)
+    beside = os.path.join(TOP, 'crates/frame_speed/out/frame_speed')
+    if os.path.exists(beside):
+        frames(beside)
 
 
 if __name__ == '__main__':

@@ -1,0 +1,10 @@
+pub mod Work
+pub mod Names
+pub mod Operators
+pub mod Members
+pub mod Lists
+pub mod Patterns
+pub mod Statements
+pub mod Loops
+pub mod Endings
+pub mod Stack

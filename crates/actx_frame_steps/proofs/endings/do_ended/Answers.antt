@@ -1,0 +1,9 @@
+use Rattle.std.proofs.Common.{sym, ◌∙◌}
+use Rattle.actx_frame_steps.proofs.EndingLaws.{do_again_law}
+use Rattle.actx_frame_steps.proofs.endings.do_ended.Goals as goal
+
+pub returns-in_ok-test-in-Again : goal.returns-in_ok-test-in-Again
+returns-in_ok-test-in-Again c =
+    let e = c.in_ok-test-in-Again.ensures in
+    let h = sym c.body_end.ensures ∙ c.in-Again.is in
+    rw c.under.ensures (record { leads = do_again_law c.args.held c.args.c c.in_ok-test-in-Again.test h e })

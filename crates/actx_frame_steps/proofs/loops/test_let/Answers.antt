@@ -1,0 +1,7 @@
+use Rattle.actx_frame_steps.proofs.LoopLaws.{let_turn_law}
+use Rattle.actx_frame_steps.proofs.loops.test_let.Goals as goal
+
+pub returns : goal.returns
+returns c =
+    let e = c.in_ok-test.ensures in
+    rw c.under.ensures (record { leads = let_turn_law c.args.held c.args.v c.in_ok-test.test e })

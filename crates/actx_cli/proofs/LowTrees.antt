@@ -3,7 +3,7 @@ use Rattle.std.proofs.Common.{ℕ, ◌≤◌, List, arith}
 use Rattle.actx_tree.specs.declared.tree.Tree.{Tree}
 use Rattle.actx_tree.specs.Levels.{stmts_levels}
 use Rattle.actx_lex.specs.declared.token.Token.{Token}
-use Rattle.actx_program.specs.Trees.{SpFile, SpTree, file, tree}
+use Rattle.actx_program.specs.Trees.{SpTree, file, tree}
 use Rattle.actx_program.proofs.StatementLevels.{levels-items}
 use Rattle.actx_cli.specs.Accepted.{IsParsed}
 

@@ -1,5 +1,5 @@
 -- A file is not accepted and refused at once, and its refusals agree.
-use Rattle.std.proofs.Common.{◌≡◌, ℕ, ◌<◌, List, [], length, Option, Some, slice_get, refl, sym, ap, subst, ◌∙◌, arith}
+use Rattle.std.proofs.Common.{◌≡◌, ℕ, ◌<◌, List, [], length, Option, slice_get, refl, sym, ap, subst, ◌∙◌, arith}
 use Rattle.std.specs.Option.{option_map_or}
 use Rattle.actx_text.specs.Texts.{IsTextOf}
 use Rattle.actx_text.specs.Utf8.{IsFirstIllFormed}
@@ -12,7 +12,7 @@ use Rattle.actx_tree.specs.declared.tree.Tree.{Tree as FileTree}
 use Rattle.actx_program.specs.Trees.{SpTree}
 use Rattle.actx_program.proofs.TreeLaws.{one_program}
 use Rattle.actx_scope_rules.specs.declared.early.Early.{Early as EarlyError}
-use Rattle.actx_scope_rules.specs.Early.{early_errors, first_error}
+use Rattle.actx_scope_rules.specs.Early.{early_errors}
 use Rattle.actx_printing.specs.Printing.{Prints}
 use Rattle.actx_printing.proofs.Injective.{one_printing}
 use Rattle.actx_cli.specs.declared.answer.Refusal.{Refusal}

@@ -6,7 +6,6 @@ use Rattle.actx_lex.specs.declared.token.Token.{Token}
 use Rattle.actx_lex.specs.TokenLists.{SpellsTokens, Reaches}
 use Rattle.actx_tree.specs.declared.tree.Tree.{Tree}
 use Rattle.actx_program.specs.Trees.{SpTree}
-use Rattle.actx_scope_rules.specs.declared.early.Early.{Early}
 use Rattle.actx_scope_rules.specs.declared.early.EarlyKind.{EarlyKind}
 use Rattle.actx_scope_rules.specs.Early.{early_errors, first_error}
 use Rattle.actx_printing.specs.declared.lit.Lit.{Lit}

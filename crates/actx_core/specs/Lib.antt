@@ -1,0 +1,11 @@
+pub mod Making
+pub mod Names
+pub mod Operators
+pub mod Functions
+pub mod Patterns
+pub mod Expressions
+pub mod Statements
+pub mod Lowering
+pub mod Shapes
+pub mod Laws
+pub mod Examples

@@ -1,0 +1,12 @@
+pub mod Lists
+pub mod Alls
+pub mod BodyFinds
+pub mod ClassParts
+pub mod NameCounts
+pub mod Heads
+pub mod MadeExprs
+pub mod MadeFunctions
+pub mod MadeMembers
+pub mod MadeOperators
+pub mod MadePatterns
+pub mod MadeLists

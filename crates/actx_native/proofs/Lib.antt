@@ -1,0 +1,10 @@
+mod Above
+mod PropertyLemmas
+mod ElementLemmas
+mod PutLemmas
+mod MetLemmas
+mod ItemLemmas
+mod TextLemmas
+mod LengthLemmas
+mod WriteLemmas
+mod EntryLemmas

@@ -1,0 +1,6 @@
+mod Above
+mod PropertyLemmas
+mod ElementLemmas
+mod PutLemmas
+mod MetLemmas
+mod EntryLemmas

@@ -63,6 +63,7 @@ TREES = [
     ('parameters of one arrow', numbered(b'let x = (', b'pN, ', b'p0) => 0;'), 500, 'notbuilt'),
     ('suffixes of one place', between(b'let a; a', b'.b', b' = 1;'), 500, 'notbuilt'),
     ('functions in functions', functions, 500, 'notbuilt'),
+    ('open brackets alone', repeated(b'('), 1024, 'nested'),
     ('semicolons', repeated(b';'), 1000, 'notbuilt'),
     ('names in one scope', numbered(b'let n0;\n', b'let nN = nM;\n', b''), 1024, 'notbuilt'),
     ('functions in one scope', numbered(b'let f0;\n', b'function fN() { return fM; }\n', b''), 1024, 'notbuilt'),
